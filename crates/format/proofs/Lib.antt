@@ -1,0 +1,23 @@
+-- The laws of the format.
+pub mod Tests
+pub mod Errors
+pub mod Lists
+pub mod Numbers
+pub mod Headers
+pub mod Forms
+pub mod Steps
+pub mod Places
+pub mod WellFormed
+pub mod Names
+pub mod Encoding
+pub mod ReadBack
+pub mod Strict
+pub mod Bounds
+pub mod CanonicalBytes
+pub mod Fitting
+pub mod Joins
+pub mod Rows
+pub mod Writes
+pub mod Rewriting
+pub mod Envelopes
+pub mod Laws

@@ -1,0 +1,20 @@
+-- What bytes, rows and calls mean, in the order of document 01.
+pub mod Choice
+pub mod Limits
+pub mod Error
+pub mod Answer
+pub mod Header
+pub mod Utf8
+pub mod Item
+pub mod Names
+pub mod Place
+pub mod Grammar
+pub mod WellFormed
+pub mod Reading
+pub mod Rows
+pub mod Canonical
+pub mod Writing
+pub mod Joining
+pub mod Envelope
+pub mod Laws
+pub mod Examples
