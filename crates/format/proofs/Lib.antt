@@ -7,6 +7,7 @@ pub mod Headers
 pub mod Forms
 pub mod Steps
 pub mod Places
+pub mod Grammar
 pub mod WellFormed
 pub mod Names
 pub mod Encoding

@@ -18,7 +18,7 @@ use Rattle.format.specs.Utf8.{utf8}
 use Rattle.format.specs.Item.{Item, isName, isText}
 use Rattle.format.specs.Names.{index, isSome}
 use Rattle.format.specs.Place.{due, keyAfterKey, moved, tooDeep}
-use Rattle.format.specs.Reading.{Found, Options, State, after, ending, formOf, headed, isContent, isMissing, item, itemOf, itemsOf, orNull, rules, run}
+use Rattle.format.specs.Reading.{Found, Options, State, after, ending, formOf, headed, isContent, isMissing, item, itemOf, itemsOf, orNull, itemRules, run}
 use Rattle.format.proofs.Tests.{and-right, applied-none, cases, clash, failed-good, good-inj, ltb-false, none-apply, none-some, order, pick-no, pick-yes}
 use Rattle.format.proofs.Lists.{items-snoc}
 use Rattle.format.proofs.Headers.{size-within}
@@ -51,21 +51,21 @@ pub data Reads (o : Options) : State → List ℕ → State → Type 0 where
 
 -- ---- the rules
 
-passed→first : (o : Options) (s : State) (h : Header) (bs : List ℕ) (x : Found) → Passed o s h bs (x .item) → first (rules o s h (formOf h) bs (some x)) ≡ none
-unfolding rules rule orNull isMissing
+passed→first : (o : Options) (s : State) (h : Header) (bs : List ℕ) (x : Found) → Passed o s h bs (x .item) → first (itemRules o s h (formOf h) bs (some x)) ≡ none
+unfolding itemRules rule orNull isMissing
 passed→first o s h bs x p =
     none-apply _ (p .short, (refl, (p .keys, (p .depth, (p .whole, (p .text, (p .fresh, (p .entry, (p .row, tt)))))))))
 
-first→passed : (o : Options) (s : State) (h : Header) (bs : List ℕ) (x : Found) → first (rules o s h (formOf h) bs (some x)) ≡ none → Passed o s h bs (x .item)
-unfolding rules rule orNull isMissing
+first→passed : (o : Options) (s : State) (h : Header) (bs : List ℕ) (x : Found) → first (itemRules o s h (formOf h) bs (some x)) ≡ none → Passed o s h bs (x .item)
+unfolding itemRules rule orNull isMissing
 first→passed o s h bs x e =
-    let (short, (_, (keys, (depth, (whole, (text, (fresh, (entry, (row, _))))))))) = applied-none (rules o s h (formOf h) bs (some x)) e in
+    let (short, (_, (keys, (depth, (whole, (text, (fresh, (entry, (row, _))))))))) = applied-none (itemRules o s h (formOf h) bs (some x)) e in
     record { short = short; keys = keys; depth = depth; whole = whole; text = text; fresh = fresh; entry = entry; row = row }
 
 -- An item that no entry stands for is failed.
-missing : (o : Options) (s : State) (h : Header) (bs : List ℕ) → first (rules o s h (formOf h) bs none) ≡ none → true ≡ false
-unfolding rules rule isMissing
-missing o s h bs e = applied-none (rules o s h (formOf h) bs none) e .1 .0
+missing : (o : Options) (s : State) (h : Header) (bs : List ℕ) → first (itemRules o s h (formOf h) bs none) ≡ none → true ≡ false
+unfolding itemRules rule isMissing
+missing o s h bs e = applied-none (itemRules o s h (formOf h) bs none) e .1 .0
 
 -- ---- one item
 
@@ -84,7 +84,7 @@ rest-after s t bs = drop (t .at - s .at) bs
 
 meant-step : {o : Options} {s t : State} (bs : List ℕ) (h : Header) → headerOf bs ≡ some h → (found : Option Found)
     → itemOf (formOf h) (h .payload) (s .at + h .size) (drop (h .size) bs) (s .entries) ≡ found
-    → unless (first (rules o s h (formOf h) (drop (h .size) bs) found)) (after s h (formOf h) (orNull found)) ≡ good t
+    → unless (first (itemRules o s h (formOf h) (drop (h .size) bs) found)) (after s h (formOf h) (orNull found)) ≡ good t
     → Step o s bs t (rest-after s t bs)
 unfolding orNull
 meant-step {o} {s} {t} bs h e none m g = clash refl (missing o s h (drop (h .size) bs) (unless-good _ g .0))

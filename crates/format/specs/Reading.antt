@@ -92,8 +92,8 @@ orNull none = record { item = record { kind = 0; number = 0; content = [] }; sta
 orNull (some x) = x
 
 -- The rules for one item, in their order. `bs` is what follows the header.
-unfoldable pub rules : Options → State → Header → Form → List ℕ → Option Found → List Rule
-rules o s h f bs found =
+unfoldable pub itemRules : Options → State → Header → Form → List ℕ → Option Found → List Rule
+itemRules o s h f bs found =
     let x = orNull found .item in
     let named = isContent f && isName x in
     rule 11 (s .at) (o .strict && (isLong h || isNegativeAlias h))
@@ -124,7 +124,7 @@ headed o s (some h) bs =
     let f = formOf h in
     let rest = drop (h .size) bs in
     let found = itemOf f (h .payload) (s .at + h .size) rest (s .entries) in
-    unless (first (rules o s h f rest found)) (after s h f (orNull found))
+    unless (first (itemRules o s h f rest found)) (after s h f (orNull found))
 
 unfoldable pub item : Options → State → List ℕ → Answer State
 item o s bs = headed o s (headerOf bs) bs
