@@ -1,0 +1,9 @@
+//! Prints the rows of each bundle in the envelopes on standard input.
+
+use std::io::{self, Read, Write};
+
+fn main() -> io::Result<()> {
+    let mut input = Vec::new();
+    io::stdin().read_to_end(&mut input)?;
+    io::stdout().write_all(&reference::listing(&input))
+}

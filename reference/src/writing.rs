@@ -1,0 +1,69 @@
+//! Writing rows, whose content stands in a text, as a canonical bundle.
+
+use std::collections::HashSet;
+
+use crate::canonical::{deliver, encode};
+use crate::error::{fail_if, Error};
+use crate::item::{Item, Row};
+use crate::limits::{MAX_BYTES, MAX_ENTRIES, MAX_OPEN, MAX_ROWS};
+use crate::utf8;
+
+/// Writes all the rows. An error changes no byte of the output.
+pub fn write(rows: &[Row], text: &[u8], out: &mut [u8]) -> Result<usize, Error> {
+    fail_if(rows.len() > MAX_ROWS, 7, 0)?;
+    fail_if(text.len() > MAX_BYTES, 1, 0)?;
+    let mut writer = Writer {
+        rows,
+        text,
+        items: Vec::new(),
+        names: HashSet::new(),
+    };
+    while writer.items.len() < rows.len() {
+        writer.field(0)?;
+    }
+    deliver(&encode(&writer.items), out)
+}
+
+struct Writer<'a> {
+    rows: &'a [Row],
+    text: &'a [u8],
+    /// The items of the rows that have passed; as many as these is the next row's number.
+    items: Vec<Item>,
+    names: HashSet<Item>,
+}
+
+impl Writer<'_> {
+    /// Takes the rows of a field, a value or a key and then a value, inside `open` containers.
+    fn field(&mut self, open: usize) -> Result<(), Error> {
+        self.item(false, open)?;
+        if self.items.last().is_some_and(Item::is_key) {
+            self.item(true, open)?;
+        }
+        if let Some(&Item::Container(fields)) = self.items.last() {
+            // However many are claimed, each takes a row, so the rows end soon enough.
+            for _ in 0..fields {
+                self.field(open + 1)?;
+            }
+        }
+        Ok(())
+    }
+
+    /// Takes a row. The rules stand in the order of the paper.
+    fn item(&mut self, after_key: bool, open: usize) -> Result<(), Error> {
+        let place = self.items.len();
+        let row = self.rows.get(place).ok_or(Error { number: 2, place })?;
+        let item = Item::of_row(*row, self.text).ok_or(Error { number: 9, place })?;
+        fail_if(after_key && item.is_key(), 5, place)?;
+        let is_container = matches!(item, Item::Container(_));
+        fail_if(is_container && open == MAX_OPEN, 6, place)?;
+        let is_bad_text = item.text().is_some_and(|text| !utf8::is_valid(text));
+        fail_if(is_bad_text, 3, place)?;
+        let is_new_name = item.is_name() && !self.names.contains(&item);
+        fail_if(is_new_name && self.names.len() == MAX_ENTRIES, 8, place)?;
+        if is_new_name {
+            self.names.insert(item.clone());
+        }
+        self.items.push(item);
+        Ok(())
+    }
+}
