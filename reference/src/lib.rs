@@ -13,6 +13,7 @@ mod joining;
 mod limits;
 mod programs;
 mod reading;
+mod structure;
 mod utf8;
 mod writing;
 

@@ -4,6 +4,7 @@ use crate::error::{fail_if, Error};
 use crate::header::{big_endian, Code, Header};
 use crate::item::{Item, Row};
 use crate::limits::{MAX_BYTES, MAX_ENTRIES, MAX_OPEN, MAX_ROWS};
+use crate::structure::{field, Source};
 use crate::utf8;
 
 /// Which bundles are read: all (the paper's "easy"), or only canonical ones (its "strict").
@@ -54,7 +55,7 @@ pub fn read_whole(bytes: &[u8], mode: Mode, row_limit: usize) -> Result<Reading,
     };
     let mut fields = 0;
     while reader.position < bytes.len() {
-        reader.field(0)?;
+        field(&mut reader, 0)?;
         fields += 1;
     }
     let counts = Counts {
@@ -87,22 +88,7 @@ struct Reader<'a> {
     rows: Vec<Row>,
 }
 
-impl Reader<'_> {
-    /// Reads a field, a value or a key and then a value, inside `open` containers.
-    fn field(&mut self, open: usize) -> Result<(), Error> {
-        self.item(false, open)?;
-        if self.items.last().is_some_and(Item::is_key) {
-            self.item(true, open)?;
-        }
-        if let Some(&Item::Container(fields)) = self.items.last() {
-            // However many are claimed, each takes a byte, so the bytes end soon enough.
-            for _ in 0..fields {
-                self.field(open + 1)?;
-            }
-        }
-        Ok(())
-    }
-
+impl Source for Reader<'_> {
     /// Reads an item. The rules stand in the order of the paper.
     fn item(&mut self, after_key: bool, open: usize) -> Result<(), Error> {
         let place = self.position;
@@ -139,6 +125,12 @@ impl Reader<'_> {
         Ok(())
     }
 
+    fn last(&self) -> Option<&Item> {
+        self.items.last()
+    }
+}
+
+impl Reader<'_> {
     /// The entry that a reference stands for, if it has been made.
     fn referred(&self, header: Header) -> Option<&Entry> {
         if header.code != Code::Reference {

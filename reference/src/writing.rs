@@ -6,6 +6,7 @@ use crate::canonical::{deliver, encode};
 use crate::error::{fail_if, Error};
 use crate::item::{Item, Row};
 use crate::limits::{MAX_BYTES, MAX_ENTRIES, MAX_OPEN, MAX_ROWS};
+use crate::structure::{field, Source};
 use crate::utf8;
 
 /// Writes all the rows. An error changes no byte of the output.
@@ -19,7 +20,7 @@ pub fn write(rows: &[Row], text: &[u8], out: &mut [u8]) -> Result<usize, Error> 
         names: HashSet::new(),
     };
     while writer.items.len() < rows.len() {
-        writer.field(0)?;
+        field(&mut writer, 0)?;
     }
     deliver(&encode(&writer.items), out)
 }
@@ -32,22 +33,7 @@ struct Writer<'a> {
     names: HashSet<Item>,
 }
 
-impl Writer<'_> {
-    /// Takes the rows of a field, a value or a key and then a value, inside `open` containers.
-    fn field(&mut self, open: usize) -> Result<(), Error> {
-        self.item(false, open)?;
-        if self.items.last().is_some_and(Item::is_key) {
-            self.item(true, open)?;
-        }
-        if let Some(&Item::Container(fields)) = self.items.last() {
-            // However many are claimed, each takes a row, so the rows end soon enough.
-            for _ in 0..fields {
-                self.field(open + 1)?;
-            }
-        }
-        Ok(())
-    }
-
+impl Source for Writer<'_> {
     /// Takes a row. The rules stand in the order of the paper.
     fn item(&mut self, after_key: bool, open: usize) -> Result<(), Error> {
         let place = self.items.len();
@@ -65,5 +51,9 @@ impl Writer<'_> {
         }
         self.items.push(item);
         Ok(())
+    }
+
+    fn last(&self) -> Option<&Item> {
+        self.items.last()
     }
 }
