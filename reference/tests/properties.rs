@@ -19,7 +19,7 @@ fn meaning(bundle: &[u8]) -> Result<Vec<Meaning>, Error> {
 
 #[test]
 fn valid_bundles_read_as_the_model() {
-    for_seeds(60_000, |seed, random| {
+    for_seeds(40_000, |seed, random| {
         let items = model_items(random);
         let bundle = model::canonical(&items);
         assert_eq!(meaning(&bundle), Ok(items.clone()), "seed {seed}");
@@ -32,7 +32,7 @@ fn valid_bundles_read_as_the_model() {
 
 #[test]
 fn loosened_bundles_read_as_the_model() {
-    for_seeds(60_000, |seed, random| {
+    for_seeds(40_000, |seed, random| {
         let items = model_items(random);
         let canonical = model::canonical(&items);
         let loose = model::loosened(&items, random);
@@ -74,7 +74,7 @@ fn assert_modes_agree(bundle: &[u8]) {
 
 #[test]
 fn strict_reading_takes_exactly_the_canonical_bundles() {
-    for_seeds(100_000, |_, random| {
+    for_seeds(80_000, |_, random| {
         assert_modes_agree(&bundles::bundle(random))
     });
 }
@@ -97,7 +97,7 @@ fn strict_reading_takes_exactly_the_canonical_bundles_among_all_short_ones() {
 
 #[test]
 fn an_error_leaves_what_stands_before_it_good_or_waiting() {
-    for_seeds(60_000, |seed, random| {
+    for_seeds(40_000, |seed, random| {
         let bundle = bundles::bundle(random);
         for mode in MODES {
             let Err(found) = read(&bundle, mode) else {
@@ -118,7 +118,7 @@ fn an_error_leaves_what_stands_before_it_good_or_waiting() {
 
 #[test]
 fn rows_read_are_well_formed() {
-    for_seeds(60_000, |seed, random| {
+    for_seeds(40_000, |seed, random| {
         let bundle = bundles::bundle(random);
         let Ok((rows, counts)) = lenient(&bundle) else {
             return;
@@ -189,7 +189,7 @@ fn canonicalizing_needs_the_length_of_its_result() {
 
 #[test]
 fn good_tables_are_written_as_the_model_says() {
-    for_seeds(60_000, |seed, random| {
+    for_seeds(40_000, |seed, random| {
         let items = model_items(random);
         let table = tables::of_items(random, &items);
         let canonical = model::canonical(&items);
@@ -226,7 +226,7 @@ fn what_is_written_reads_as_the_rows() {
 
 #[test]
 fn write_errors_need_only_the_rows_up_to_their_place() {
-    for_seeds(60_000, |seed, random| {
+    for_seeds(40_000, |seed, random| {
         let table = tables::table(random);
         let (rows, text) = (&table.rows, &table.text);
         let Err(found) = write(rows, text, table.capacity) else {
@@ -259,7 +259,7 @@ fn moved(rows: &[Row], by: usize) -> Vec<Row> {
 
 #[test]
 fn joining_is_writing_both_tables_of_rows() {
-    for_seeds(50_000, |seed, random| {
+    for_seeds(35_000, |seed, random| {
         let pairs::Pair {
             first,
             second,
@@ -309,7 +309,7 @@ fn joined_fields_are_those_of_both() {
 
 #[test]
 fn the_empty_bundle_is_the_unit_of_joining() {
-    for_seeds(60_000, |seed, random| {
+    for_seeds(40_000, |seed, random| {
         let bundle = bundles::bundle(random);
         let canonical = canonicalize(&bundle, PLENTY);
         let on_side = |side| {

@@ -184,11 +184,11 @@ pub record Headed (bs : List ℕ) (h : Header) : Type 0 where
   pub inside : following (h .code) (h .sz) ≡ 0 → h .payload ≡ h .sz - shift (h .code)
   pub fits : following (h .code) (h .sz) ≢ 0 → h .payload < 256 ^ following (h .code) (h .sz)
 
-payload-inside : (code sz n : ℕ) (bs : List ℕ) → n ≡ 0 → payloadOf code sz n bs ≡ sz - shift code
+pub payload-inside : (code sz n : ℕ) (bs : List ℕ) → n ≡ 0 → payloadOf code sz n bs ≡ sz - shift code
 unfolding payloadOf
 payload-inside code sz n bs e = pick-yes _ _ (eqb-yes e)
 
-payload-after : (code sz n : ℕ) (bs : List ℕ) → n ≢ 0 → payloadOf code sz n bs ≡ bigEndian 0 (take n bs)
+pub payload-after : (code sz n : ℕ) (bs : List ℕ) → n ≢ 0 → payloadOf code sz n bs ≡ bigEndian 0 (take n bs)
 unfolding payloadOf
 payload-after code sz n bs e = pick-no _ _ (eqb-no e)
 

@@ -1,0 +1,57 @@
+use mathlib.Core.Path.{_≡_, refl, sym, ap, _∙_}
+use Prim.Native.Nat.{ℕ, _+_, _<_, _≤_}
+use native.Mathlib.Omega.{arith}
+use Rattle.format.proofs.Headers.{following-le, payload-inside, payload-after}
+use Rattle.wire.proofs.HeaderLaws.{no-header, cut-header, whole-header}
+use borrow.Author.Needs.{needs}
+use Rattle.wire.proofs.header.header_at.Statement.{statement}
+use Rattle.wire.proofs.header.header_at.Tie as tie
+
+returns : tie.Need-returns
+returns c = sym (no-header _ _ (c .if1 .taken))
+
+shared-slice-read-lead : tie.Need-shared-slice-read-lead
+shared-slice-read-lead c = search needs
+
+following-requires : tie.Need-following-requires
+following-requires c κs = search needs
+
+add-b : tie.Need-add-b
+add-b c = search needs
+
+sub-if2 : tie.Need-sub-if2
+sub-if2 c = search needs
+
+returns-2 : tie.Need-returns-2
+returns-2 c = sym (cut-header _ _ (c .before .before .before .if1 .left) _ (c .before .following .ensures) (c .if2 .taken))
+
+inline-payload-requires : tie.Need-inline-payload-requires
+inline-payload-requires c κs = search needs
+
+returns-3 : tie.Need-returns-3
+returns-3 c = sym (whole-header _ _ (c .before .before .before .before .before .if1 .left) _ (c .before .before .before .following .ensures) (c .before .before .if2 .left) _ _ (c .inline-payload .ensures ∙ sym (payload-inside _ _ _ _ (c .before .if3 .taken))) (omega arith))
+
+number-requires : tie.Need-number-requires
+number-requires c κs = (omega arith, rw (c .before .before .following .ensures) (following-le _ _ (omega arith)))
+
+add-t8 : tie.Need-add-t8
+add-t8 c = search needs
+
+returns-4 : tie.Need-returns-4
+returns-4 c = sym (whole-header _ _ (c .before .before .before .before .before .if1 .left) _ (c .before .before .before .following .ensures) (c .before .before .if2 .left) _ _ (c .number .ensures ∙ sym (payload-after _ _ _ _ (c .before .if3 .left))) refl)
+
+pub header-at-spec : {M : Type 1} → statement M
+header-at-spec =
+    tie.close
+    (tie.spec
+    returns
+    shared-slice-read-lead
+    following-requires
+    add-b
+    sub-if2
+    returns-2
+    inline-payload-requires
+    returns-3
+    number-requires
+    add-t8
+    returns-4)

@@ -1,0 +1,24 @@
+use mathlib.Core.Path.{sym, ap, _∙_}
+use Rattle.format.specs.Choice.{_&&_}
+use Rattle.format.specs.Header.{isLong}
+use Rattle.format.proofs.Tests.{ltb-yes, ltb-no}
+use borrow.Author.Needs.{needs}
+use Rattle.wire.proofs.header.is_long.Statement.{statement}
+use Rattle.wire.proofs.header.is_long.Tie as tie
+
+cast-if1 : tie.Need-cast-if1
+cast-if1 c = search needs
+
+returns : tie.Need-returns
+unfolding isLong _&&_
+returns c = rw (ltb-no (c .if1 .taken))
+
+header-len-requires : tie.Need-header-len-requires
+header-len-requires c κs = search needs
+
+returns-2 : tie.Need-returns-2
+unfolding isLong _&&_
+returns-2 c = rw (ltb-yes (c .before .before .if1 .left), c .before .header-len .ensures)
+
+pub is-long-spec : {M : Type 1} → statement M
+is-long-spec = tie.close (tie.spec cast-if1 returns header-len-requires returns-2)

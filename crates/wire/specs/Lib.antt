@@ -1,0 +1,2 @@
+-- What the answers of the leaves mean.
+pub mod Heads

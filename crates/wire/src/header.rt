@@ -1,0 +1,151 @@
+// A header read at an offset, and the length of the shortest one.
+ghost use mathlib.Core.Path.{_≡_};
+ghost use Prim.Native.Nat.{_+_, _-_, _≤_, _<_};
+ghost use lib.ListN.{length, take, drop};
+ghost use Rattle.format.specs.Header.{shift, bigEndian, following, headerOf, width, header, isLong};
+ghost use Rattle.wire.specs.Heads.{wholeOf};
+use format::Header;
+
+// A header that was read, or bytes that end inside it.
+pub enum Head {
+    Cut,
+    Whole(Header),
+}
+
+// The number in n bytes from a on, most significant first.
+pub fn number(s: &[u8], a: usize, n: usize) -> u64
+    requires { ⌜ (a + n ≤ length (now s)) × (n ≤ 8) ⌝ }
+    ensures { λ r. ⌜ r ≡ bigEndian 0 (take n (drop a (now (s .entry)))) ⌝ }
+{
+    if n == 1 {
+        return s[a] as u64;
+    }
+    let mut p: u64 = 0;
+    let mut i = 0;
+    while i < n {
+        let b = s[a + i];
+        p = p * 256 + b as u64;
+        i += 1;
+    }
+    p
+}
+
+// How many bytes follow a lead byte.
+fn following(code: u8, sz: u8) -> usize
+    requires { ⌜ sz < 32 ⌝ }
+    ensures { λ r. ⌜ r ≡ following code sz ⌝ }
+{
+    let z = sz as u64;
+    if Header::MAX_INLINE < z {
+        return (z - Header::MAX_INLINE) as usize;
+    }
+    if code == 0 {
+        if sz == 3 {
+            return 4;
+        }
+        if sz == 4 {
+            return 8;
+        }
+    }
+    0
+}
+
+// The payload that a lead byte has in itself.
+fn inline_payload(code: u8, sz: u8) -> u64
+    ensures { λ r. ⌜ r ≡ sz - shift code ⌝ }
+{
+    let z = sz as u64;
+    if code == 0 {
+        if z < Header::FIXED {
+            return 0;
+        }
+        return z - Header::FIXED;
+    }
+    z
+}
+
+// The header at an offset.
+pub fn header_at(s: &[u8], at: usize) -> Head
+    ensures { λ r. ⌜ wholeOf r ≡ headerOf (drop at (now (s .entry))) ⌝ }
+{
+    if s.len() <= at {
+        return Head::Cut;
+    }
+    let lead = s[at];
+    let code = lead / 32;
+    let sz = lead % 32;
+    let n = following(code, sz);
+    let b = at + 1;
+    if s.len() - b < n {
+        return Head::Cut;
+    }
+    if n == 0 {
+        return Head::Whole(Header {
+            code,
+            sz,
+            payload: inline_payload(code, sz),
+            size: 1,
+        });
+    }
+    Head::Whole(Header {
+        code,
+        sz,
+        payload: number(s, b, n),
+        size: 1 + n,
+    })
+}
+
+// The fewest bytes, from 1 to 8, that hold p.
+pub fn width(p: u64) -> usize
+    ensures { λ r. ⌜ r ≡ width p ⌝ }
+{
+    if p < 256 {
+        return 1;
+    }
+    if p < 65536 {
+        return 2;
+    }
+    if p < 16777216 {
+        return 3;
+    }
+    if p < 4294967296 {
+        return 4;
+    }
+    if p < 1099511627776 {
+        return 5;
+    }
+    if p < 281474976710656 {
+        return 6;
+    }
+    if p < 72057594037927936 {
+        return 7;
+    }
+    8
+}
+
+// The length of the shortest header.
+pub fn header_len(code: u8, p: u64) -> usize
+    ensures { λ r. ⌜ r ≡ length (header code p) ⌝ }
+{
+    if code == 0 {
+        if p <= Header::MAX_INLINE_BYTES {
+            return 1;
+        }
+        return 1 + width(p);
+    }
+    if p <= Header::MAX_INLINE {
+        return 1;
+    }
+    1 + width(p)
+}
+
+// Is the header longer than it has to be?
+pub fn is_long(h: Header) -> bool
+    ensures { λ r. ⌜ r ≡ isLong h ⌝ }
+{
+    let sz = h.sz;
+    if sz as u64 <= Header::MAX_INLINE {
+        return false;
+    }
+    header_len(h.code, h.payload) < h.size
+}
