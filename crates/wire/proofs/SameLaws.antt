@@ -38,4 +38,3 @@ module _ (xs ys : List ℕ) (i : ℕ) (hx : i < length xs) (hy : i < length ys) 
 pub ends : (xs ys : List ℕ) (i : ℕ) → i ≡ length xs → length xs ≡ length ys → same (drop i xs) (drop i ys) ≡ true
 unfolding same
 ends xs ys i h k = rw (h, drop-length xs, k, drop-length ys)
-

@@ -1,0 +1,5 @@
+-- Laws for the reader.
+pub mod Ladder
+pub mod Entries
+pub mod Flat
+pub mod Contents

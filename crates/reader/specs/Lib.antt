@@ -1,0 +1,4 @@
+-- How the state of the code stands for the state of reading, and what its answers mean.
+pub mod Judging
+pub mod Lanes
+pub mod Answers

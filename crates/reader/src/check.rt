@@ -1,0 +1,62 @@
+// Checking a bundle: its counts, or an error.
+ghost use mathlib.Core.Path.{_≡_};
+ghost use Prim.Native.Nat.{_≤_, min};
+ghost use lib.ListN.{length};
+ghost use Rattle.format.specs.declared.error.Mode.the-variants.{Lenient};
+ghost use Rattle.format.specs.Limits.{max-rows};
+ghost use Rattle.format.specs.Reading.{options, counts};
+ghost use Rattle.reader.specs.Answers.{answerOf};
+use crate::fields::Step;
+use format::Bundle;
+use format::Error;
+use format::FieldCount;
+use format::Mode;
+use format::Row;
+use format::SymbolTable;
+
+// The counts of a bundle that reads, or the error and its offset.
+pub enum Checked {
+    Good(Bundle),
+    Failed(Error, usize),
+}
+
+// A bundle read with a row limit.
+pub fn walk(bytes: &[u8], mode: Mode, most: usize) -> Checked
+    requires { ⌜ most ≤ max-rows ⌝ }
+    ensures { λ r. ⌜ answerOf r ≡ counts (options mode most) (now (bytes .entry)) ⌝ }
+{
+    if Bundle::MAX_BYTES < bytes.len() {
+        return Checked::Failed(Error::TooLong, 0);
+    }
+    let mut entries = [0u64; SymbolTable::MAX_ENTRIES];
+    let mut links = [0u16; 512];
+    let strict = mode.is_strict();
+    // more fields than there are bytes, so that the bytes end first
+    match crate::fields::fields(bytes, strict, Bundle::MAX_DEPTH, FieldCount(16385), 0, 0, most, &mut entries, &mut links) {
+        Step::Bad(k, p) => Checked::Failed(k, p),
+        Step::End(left, u) => {
+            if u.keyed == 1 {
+                return Checked::Failed(Error::Truncated, u.at);
+            }
+            Checked::Good(Bundle {
+                rows: most - u.rows,
+                entries: u.names,
+                fields: (16385 - left) as usize,
+            })
+        }
+        Step::Good(u) => Checked::Failed(Error::Truncated, u.at),
+    }
+}
+
+// Checks a bundle leniently.
+pub fn check(bytes: &[u8]) -> Checked
+    ensures { λ r. ⌜ answerOf r ≡ counts (options Lenient max-rows) (now (bytes .entry)) ⌝ }
+{
+    check_in(bytes, Mode::default())
+}
+
+pub fn check_in(bytes: &[u8], mode: Mode) -> Checked
+    ensures { λ r. ⌜ answerOf r ≡ counts (options mode max-rows) (now (bytes .entry)) ⌝ }
+{
+    walk(bytes, mode, Row::MAX_COUNT)
+}

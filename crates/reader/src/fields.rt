@@ -1,0 +1,108 @@
+// The recursive reader: n fields, each a value, or a key and its value, with all that a container holds.
+ghost use mathlib.Core.Path.{_≡_};
+ghost use mathlib.Core.Bool.{Bool, true, false};
+ghost use mathlib.Core.List.{List};
+ghost use Prim.Native.Nat.{ℕ, _+_, _-_, _≤_, _<_, min};
+ghost use lib.ListN.{length, drop};
+ghost use Rattle.format.specs.Limits.{max-rows};
+ghost use Rattle.format.specs.Place.{Place};
+ghost use Rattle.format.specs.Reading.{Options, State};
+ghost use Rattle.reader.specs.Judging.{Fair, Stands};
+ghost use Rattle.reader.specs.Lanes.{Lane, Went, Resumes};
+use crate::item::Out;
+use format::Error;
+use format::FieldCount;
+use format::SymbolTable;
+
+// How far reading has come: the offset, the entries, the rows that are left, and 1 where a key was read and its value is due.
+pub struct Cursor {
+    pub at: usize,
+    pub names: usize,
+    pub rows: usize,
+    pub keyed: usize,
+}
+
+// What fields come to: an error, the end of the bytes with some of them left, or all are read.
+pub enum Step {
+    Bad(Error, usize),
+    End(u64, Cursor),
+    Good(Cursor),
+}
+
+pub fn fields(
+    s: &[u8],
+    strict: bool,
+    depth: usize,
+    count: FieldCount,
+    from: usize,
+    known: usize,
+    free: usize,
+    entries: &mut [u64; SymbolTable::MAX_ENTRIES],
+    links: &mut [u16; 512],
+) -> Step
+    requires { ⌜ (from ≤ length (now s)) × (length (now s) ≤ 16384) × Fair strict (now s) (now entries) (now links) known ⌝ }
+    ensures went { λ r. ⌜ Went strict (now (s .entry)) (now (entries .exit)) (now (links .exit)) from (count .0) r ⌝ }
+    ensures resumes { λ r. ⌜ ((Q : ℕ → Bool → Place) (o : Options) (a : State) → o .strict ≡ strict → Lane Q depth (count .0) → Stands (now (s .entry)) (now (entries .entry)) from known 0 a
+        → length (a .found) + free ≡ min max-rows (o .capacity) → a .place ≡ Q (count .0) false
+        → Resumes o (now (s .entry)) (now (entries .exit)) Q a r) ⌝ }
+{
+    let mut at = from;
+    let mut names = known;
+    let mut rows = free;
+    let mut keyed = 0;
+    let mut left = count.0;
+    while 0 < left {
+        if s.len() <= at {
+            return Step::End(left, Cursor { at, names, rows, keyed });
+        }
+        let item = crate::item::one(s, strict, depth, at, names, keyed, entries, links);
+        if let Out::Bad(k) = item {
+            return Step::Bad(k, at);
+        }
+        if rows == 0 {
+            return Step::Bad(Error::TooManyRows, at);
+        }
+        rows -= 1;
+        match item {
+            Out::Bad(k) => {
+                return Step::Bad(k, at);
+            }
+            Out::Value(u) => {
+                at = u;
+                keyed = 0;
+                left -= 1;
+            }
+            Out::Key(u) => {
+                at = u;
+                keyed = 1;
+            }
+            Out::NewSymbol(u) => {
+                at = u;
+                names += 1;
+                keyed = 0;
+                left -= 1;
+            }
+            Out::NewKey(u) => {
+                at = u;
+                names += 1;
+                keyed = 1;
+            }
+            Out::Container(n, u) => match fields(s, strict, depth - 1, n, u, names, rows, entries, links) {
+                Step::Bad(k, p) => {
+                    return Step::Bad(k, p);
+                }
+                Step::End(_, v) => {
+                    return Step::Bad(Error::Truncated, v.at);
+                }
+                Step::Good(v) => {
+                    at = v.at;
+                    names = v.names;
+                    rows = v.rows;
+                    keyed = 0;
+                    left -= 1;
+                }
+            },
+        }
+    }
+    Step::Good(Cursor { at, names, rows, keyed })
+}

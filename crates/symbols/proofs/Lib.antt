@@ -1,0 +1,4 @@
+-- Laws of the symbol table in memory.
+pub mod MarkLaws
+pub mod EntryLaws
+pub mod ChainLaws

@@ -1,0 +1,20 @@
+-- `symbols::mark::mix` meets its contract: it is the spec's sum, whose product fits 64 bits. Assumes nothing.
+use mathlib.Core.Path.{refl}
+use native.Mathlib.Omega.{arith}
+use Rattle.symbols.specs.Mark.{mixed}
+use borrow.Author.Needs.{needs}
+use Rattle.symbols.proofs.mark.mix.Statement.{statement}
+use Rattle.symbols.proofs.mark.mix.Tie as tie
+
+add-result : tie.Need-add-result
+add-result c = search needs
+
+mul-result : tie.Need-mul-result
+mul-result c = search needs
+
+returns : tie.Need-returns
+unfolding mixed
+returns c = (refl, omega arith)
+
+pub mix-spec : {M : Type 1} → statement M
+mix-spec = tie.close (tie.spec add-result mul-result returns)

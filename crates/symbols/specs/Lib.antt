@@ -1,0 +1,4 @@
+-- What the symbol table in memory stands for.
+pub mod Mark
+pub mod Entry
+pub mod Chains

@@ -1,0 +1,60 @@
+// A name looked up along a chain of entries with like marks, and a new name put in.
+ghost use mathlib.Core.Path.{_≡_};
+ghost use mathlib.Core.Option.{none};
+ghost use Prim.Native.Nat.{_+_, _<_, _≤_};
+ghost use lib.ListN.{length, take, set};
+ghost use Rattle.format.specs.Names.{index};
+ghost use Rattle.symbols.specs.Entry.{keyOf, nameIn, namesIn, name, Sound};
+ghost use Rattle.symbols.specs.Chains.{foundOf, Chained};
+use format::SymbolTable;
+
+pub enum Lookup {
+    At(usize),
+    Nothing,
+}
+
+// The first entry of a name.
+pub fn find<'a>(
+    first: &'a [u8],
+    second: &'a [u8],
+    entries: &[u64; SymbolTable::MAX_ENTRIES],
+    links: &[u16; 512],
+    count: usize,
+    kind: u8,
+    key: u64,
+    content: &[u8],
+) -> Lookup
+    requires { ⌜ Chained (now first) (now second) (now entries) (now links) count × (key ≡ keyOf kind (now content)) × (10 ≤ kind) × (kind ≤ 11) × (length (now content) ≤ 16384) ⌝ }
+    ensures { λ r. ⌜ r ≡ foundOf (index (name kind (now (content .entry))) (namesIn (now (first .entry)) (now (second .entry)) (take count (now (entries .entry))))) ⌝ }
+{
+    let head = (key / 1099511627776 % 256) as usize;
+    let mut v = links[head];
+    while 0 < v {
+        let i = (v - 1) as usize;
+        if crate::entry::is_name(first, second, entries[i], kind, key, content) {
+            return Lookup::At(i);
+        }
+        v = links[256 + i];
+    }
+    Lookup::Nothing
+}
+
+// Puts an entry at the end, in front of its chain.
+pub fn enter<'a>(
+    first: &'a [u8],
+    second: &'a [u8],
+    entries: &mut [u64; SymbolTable::MAX_ENTRIES],
+    links: &mut [u16; 512],
+    count: usize,
+    e: u64,
+)
+    requires { ⌜ Chained (now first) (now second) (now entries) (now links) count × (count < 256) × Sound (now first) (now second) e
+        × (index (nameIn (now first) (now second) e) (namesIn (now first) (now second) (take count (now entries))) ≡ none) ⌝ }
+    ensures stored { λ _. ⌜ now (entries .exit) ≡ set (now (entries .entry)) count e ⌝ }
+    ensures chained { λ _. ⌜ Chained (now (first .entry)) (now (second .entry)) (now (entries .exit)) (now (links .exit)) (count + 1) ⌝ }
+{
+    let head = (e / 1099511627776 % 256) as usize;
+    entries[count] = e;
+    links[256 + count] = links[head];
+    links[head] = (count + 1) as u16;
+}
