@@ -19,7 +19,7 @@ use Rattle.format.specs.Item.{Item, isKey, isContainer, isName, isText}
 use Rattle.format.specs.Names.{index, isSome}
 use Rattle.format.specs.Place.{Place, keyAfterKey, tooDeep, moved}
 use Rattle.format.specs.Reading.{Options, State, Found, content, formOf, isContent, itemOf, itemsOf, after, headed}
-use Rattle.format.proofs.Tests.{cases, equal, leb-yes, leb-no, ltb-yes, ltb-no, eqb-yes, eqb-no, and-no-left, and-no-right, and-yes, pick-yes, pick-no}
+use Rattle.format.proofs.Tests.{cases, clash, equal, leb-yes, leb-no, ltb-yes, ltb-no, eqb-yes, eqb-no, and-no-left, and-no-right, and-yes, pick-yes, pick-no}
 use Rattle.reader.specs.declared.item.Out.{Out}
 use Rattle.reader.specs.declared.item.Out.the-variants as out
 use Rattle.reader.specs.Judging.{entriesOf, Fair, Stands, Moved, Moves, Goes, Judged, Case, Body, Name, partOf, isKnown, freshOf, Entered, known, full, entered, rowed}
@@ -49,9 +49,10 @@ name-of h l u = record { form = form-coded h (h .code) refl (omega arith) u; hig
 
 -- ---- the rules for content of kind k from next on
 
-module _ {s es : List ℕ} {at names keyed next : ℕ} {h : Header} {o : Options} {a : State} (cs : Case s es at names keyed next h o a) (k : ℕ) (ef : formOf h ≡ content k) (plain : k ≢ 8) where
+module _ {s es : List ℕ} {at names keyed next : ℕ} {h : Header} {o : Options} {a : State} (cs : Case s es at names keyed next h o a) (p : ℕ) (ep : p ≡ h .payload)
+    (k : ℕ) (ef : formOf h ≡ content k) (plain : k ≢ 8) where
   abbrev x : Found
-  x = partOf s k next (h .payload)
+  x = partOf s k next p
 
   rest-is : drop (h .size) (drop at s) ≡ drop next s
   rest-is = drop-drop (h .size) at s ∙ ap (λ (n : ℕ). drop n s) (sym (cs .size))
@@ -60,7 +61,7 @@ module _ {s es : List ℕ} {at names keyed next : ℕ} {h : Header} {o : Options
   unfolding itemOf
   at-later =
       let e : a .at + h .size ≡ next = omega (arith, cs .stands .offset, cs .size) in
-      to-later o a h (drop at s) (content k) ef (cs .short) x (rw (rest-is, e)) ∙ rw rest-is
+      to-later o a h (drop at s) (content k) ef (cs .short) x (rw (rest-is, e) (ap (λ (n : ℕ). some (partOf s k next n)) (sym ep))) ∙ rw rest-is
 
   pub content-again : eqb keyed 1 && isKey (x .item) ≡ true → headed o a (some h) (drop at s) ≡ fail 5 (a .at)
   content-again e = at-later ∙ pick-yes _ _ (rw (cs .stands .key) e)
@@ -72,15 +73,15 @@ module _ {s es : List ℕ} {at names keyed next : ℕ} {h : Header} {o : Options
     not-box : tooDeep (a .place) (x .item) ≡ false
     not-box = and-no-left _ (not-container (x .item) plain)
 
-    pub content-cut : length s - next < h .payload → headed o a (some h) (drop at s) ≡ fail 2 (a .at)
+    pub content-cut : length s - next < p → headed o a (some h) (drop at s) ≡ fail 2 (a .at)
     unfolding isContent _&&_
     content-cut l =
-        let g : length (drop next s) < h .payload = rw length-drop l in
+        let g : length (drop next s) < h .payload = omega (arith, length-drop next s) in
         at-later ∙ pick-no _ _ not-again ∙ pick-no _ _ not-box ∙ pick-yes _ _ (ltb-yes g)
 
-    module _ (whole : h .payload ≤ length s - next) where
+    module _ (whole : p ≤ length s - next) where
       uncut : ltb (length (drop next s)) (h .payload) ≡ false
-      uncut = let g : h .payload ≤ length (drop next s) = rw length-drop whole in ltb-no g
+      uncut = let g : h .payload ≤ length (drop next s) = omega (arith, length-drop next s) in ltb-no g
 
       pub content-text : isText (x .item) && not (utf8 (x .item .content)) ≡ true → headed o a (some h) (drop at s) ≡ fail 3 (a .at)
       unfolding isContent _&&_
@@ -95,10 +96,10 @@ module _ {s es : List ℕ} {at names keyed next : ℕ} {h : Header} {o : Options
         at-rest = at-later ∙ pick-no _ _ not-again ∙ pick-no _ _ not-box ∙ pick-no _ _ uncut ∙ pick-no _ _ text
 
         -- the state after it
-        after-stands : (es′ : List ℕ) (n b : ℕ) (p : Place) → moved (a .place) (x .item) ≡ p → p .keyed ≡ eqb b 1 → after a h (content k) x .entries ≡ entriesOf s es′ n
-            → Stands s es′ (next + h .payload) n b (after a h (content k) x)
+        after-stands : (es′ : List ℕ) (n b : ℕ) (q : Place) → moved (a .place) (x .item) ≡ q → q .keyed ≡ eqb b 1 → after a h (content k) x .entries ≡ entriesOf s es′ n
+            → Stands s es′ (next + p) n b (after a h (content k) x)
         unfolding after isContent
-        after-stands es′ n b p mv kb ee =
+        after-stands es′ n b q mv kb ee =
             record {
               offset = rw (pick-yes {b = true} (h .payload) 0 refl) (omega (arith, cs .stands .offset, cs .size));
               key = ap (λ (v : Place). v .keyed) mv ∙ kb;
@@ -106,7 +107,7 @@ module _ {s es : List ℕ} {at names keyed next : ℕ} {h : Header} {o : Options
             }
 
         -- bytes and strings
-        pub content-value : k < 10 → Judged o s es names a (headed o a (some h) (drop at s)) (out.Value (next + h .payload))
+        pub content-value : k < 10 → Judged o s es names a (headed o a (some h) (drop at s)) (out.Value (next + p))
         unfolding after isContent
         content-value low =
             let no-name : isName (x .item) ≡ false = not-name (x .item) low in
@@ -141,20 +142,20 @@ module _ {s es : List ℕ} {at names keyed next : ℕ} {h : Header} {o : Options
             name-full l = at-entry ∙ pick-yes _ _ (rw (a-name, entries-length) (leb-yes l))
 
             pub name-goes : names < max-entries → (es′ : List ℕ) → entriesOf s es′ (names + 1) ≡ entriesOf s es names ++ (x ∷ [])
-                → (b : ℕ) (p : Place) → moved (a .place) (x .item) ≡ p → p .keyed ≡ eqb b 1 → Goes o s es′ (next + h .payload) (names + 1) b p a (headed o a (some h) (drop at s))
+                → (b : ℕ) (q : Place) → moved (a .place) (x .item) ≡ q → q .keyed ≡ eqb b 1 → Goes o s es′ (next + p) (names + 1) b q a (headed o a (some h) (drop at s))
             unfolding after isContent
-            name-goes l es′ em b p mv kb =
+            name-goes l es′ em b q mv kb =
                 record {
                   next = after a h (content k) x;
                   is = at-entry ∙ pick-no _ _ (and-no-right _ (rw entries-length (leb-no l)));
-                  stands = after-stands es′ (names + 1) b p mv kb (pick-yes _ _ (and-yes refl a-name) ∙ ap (λ (l : List Found). l ++ (x ∷ [])) (cs .stands .entries) ∙ sym em);
+                  stands = after-stands es′ (names + 1) b q mv kb (pick-yes _ _ (and-yes refl a-name) ∙ ap (λ (l : List Found). l ++ (x ∷ [])) (cs .stands .entries) ∙ sym em);
                   place = mv;
                   row = length-append (a .found) (x ∷ []);
                 }
 
             -- A key opens its field, a symbol ends it.
             pub name-fresh : names < max-entries → (es′ : List ℕ) → entriesOf s es′ (names + 1) ≡ entriesOf s es names ++ (x ∷ [])
-                → Judged o s es′ names a (headed o a (some h) (drop at s)) (freshOf k (next + h .payload))
+                → Judged o s es′ names a (headed o a (some h) (drop at s)) (freshOf k (next + p))
             unfolding freshOf pick
             name-fresh l es′ em =
                 equal k 11
@@ -164,55 +165,60 @@ module _ {s es : List ℕ} {at names keyed next : ℕ} {h : Header} {o : Options
 -- ---- what the code compared
 
 -- The end of a part less its start.
-pub part-size : (next p : ℕ) → next + p - next ≡ p
+part-size : (next p : ℕ) → next + p - next ≡ p
 part-size next p = omega arith
 
-pub body-key : (s : List ℕ) (next keyed : ℕ) {h : Header} (b : Body h) → eqb keyed 1 && isKey (partOf s (b .kind) next (h .payload) .item) ≡ false
-body-key s next keyed {h} b = and-no-right _ (not-key (partOf s (b .kind) next (h .payload) .item) (λ e. omega (arith, b .low)))
+module _ (s : List ℕ) (next p : ℕ) where
+  pub body-key : (keyed : ℕ) {h : Header} (b : Body h) → eqb keyed 1 && isKey (partOf s (b .kind) next p .item) ≡ false
+  body-key keyed b = and-no-right _ (not-key (partOf s (b .kind) next p .item) (λ e. omega (arith, b .low)))
 
-pub body-text : (s : List ℕ) (next : ℕ) {h : Header} (b : Body h) {r : Bool} → r ≡ (eqb (h .code) 4 && not (utf8 (take (next + h .payload - next) (drop next s))))
-    → isText (partOf s (b .kind) next (h .payload) .item) && not (utf8 (partOf s (b .kind) next (h .payload) .item .content)) ≡ r
-unfolding isText
-body-text s next {h} b e = rw (b .text) (sym (rw (part-size next (h .payload)) at e))
+  pub body-text : {h : Header} (b : Body h) {r : Bool} → r ≡ (eqb (h .code) 4 && not (utf8 (take (next + p - next) (drop next s))))
+      → isText (partOf s (b .kind) next p .item) && not (utf8 (partOf s (b .kind) next p .item .content)) ≡ r
+  unfolding isText
+  body-text b e = rw (b .text) (sym (rw (part-size next p) at e))
 
-pub name-text : (s : List ℕ) (next : ℕ) {h : Header} (b : Name h) {r : Bool} → r ≡ utf8 (take (next + h .payload - next) (drop next s))
-    → isText (partOf s (h .code + 5) next (h .payload) .item) && not (utf8 (partOf s (h .code + 5) next (h .payload) .item .content)) ≡ not r
-unfolding isText _&&_
-name-text s next {h} b e =
-    let n : 9 ≤ h .code + 5 = omega (arith, b .high) in
-    rw (leb-yes {a = 9} {b = h .code + 5} n) (ap not (sym (rw (part-size next (h .payload)) at e)))
+  pub name-text : {h : Header} (b : Name h) {r : Bool} → r ≡ utf8 (take (next + p - next) (drop next s))
+      → isText (partOf s (h .code + 5) next p .item) && not (utf8 (partOf s (h .code + 5) next p .item .content)) ≡ not r
+  unfolding isText _&&_
+  name-text {h} b e =
+      let n : 9 ≤ h .code + 5 = omega (arith, b .high) in
+      rw (leb-yes {a = 9} {b = h .code + 5} n) (ap not (sym (rw (part-size next p) at e)))
 
 -- ---- a name that the table was asked about
 
-pub name-moves : {strict : Bool} {s es es′ links′ : List ℕ} {names kind next e : ℕ} {r : Out} (at depth : ℕ) → at < e → e ≤ length s → Entered strict s es es′ links′ names kind next e r
+pub fair-plain : {strict : Bool} {s es links : List ℕ} {names : ℕ} → Fair strict s es links names → Fair false s es links names
+fair-plain f = record { few = f .few; size = f .size; chained = λ z. clash z refl }
+
+pub name-moves : {strict b : Bool} {s es es′ links′ : List ℕ} {names kind next e : ℕ} {r : Out} → strict ≡ b → (at depth : ℕ) → at < e → e ≤ length s → Entered b s es es′ links′ names kind next e r
     → Moves strict s es′ links′ at names depth r
 unfolding freshOf pick
-name-moves {strict} {s} {es} {es′} {links′} {names} {kind} {next} {e} at depth l w t = subst (λ (v : Out). Moves strict s es′ links′ at names depth v) (sym (is t .1)) (is t .2)
+name-moves {strict} {b} {s} {es} {es′} {links′} {names} {kind} {next} {e} {r} z at depth l w t =
+    subst (λ (v : Bool). Moves v s es′ links′ at names depth r) (sym z) (subst (λ (v : Out). Moves b s es′ links′ at names depth v) (sym (is t .1)) (is t .2))
   where
-    is : {r : Out} → Entered strict s es es′ links′ names kind next e r → (q : Out) × (r ≡ q) × Moves strict s es′ links′ at names depth q
+    is : Entered b s es es′ links′ names kind next e r → (q : Out) × (r ≡ q) × Moves b s es′ links′ at names depth q
     is (known z q) = (_, q, tt)
     is (full z m q) = (_, q, tt)
     is (entered z m q em f) = (_, q, cases (eqb kind 11) (λ c. rw c (record { on = l; within = w; fair = f })) (λ c. rw c (record { on = l; within = w; fair = f })))
 
-pub name-judged : {strict : Bool} {s es es′ links′ : List ℕ} {at names keyed next : ℕ} {h : Header} {o : Options} {a : State} {r : Out} (b : Name h) → o .strict ≡ strict → (cs : Case s es at names keyed next h o a)
-    → length es ≡ 256 → names ≤ 256 → eqb keyed 1 && eqb (h .code + 5) 11 ≡ false → h .payload ≤ length s - next
-    → isText (partOf s (h .code + 5) next (h .payload) .item) && not (utf8 (partOf s (h .code + 5) next (h .payload) .item .content)) ≡ false
-    → Entered strict s es es′ links′ names (h .code + 5) next (next + h .payload) r → Judged o s es′ names a (headed o a (some h) (drop at s)) r
-unfolding isKey
-name-judged {strict} {s} {es} {es′} {links′} {at} {names} {keyed} {next} {h} {o} {a} {r} b so cs size few key whole text t = go t
-  where
-    plain : h .code + 5 ≢ 8
-    plain e = omega (arith, b .high)
+pub name-plain : {h : Header} → Name h → h .code + 5 ≢ 8
+name-plain {h} b e = omega (arith, b .high)
 
-    strictly : (v : Bool) → strict && isKnown s es names (partOf s (h .code + 5) next (next + h .payload - next)) ≡ v → o .strict && isKnown s es names (partOf s (h .code + 5) next (h .payload)) ≡ v
-    strictly v e = rw so (rw (part-size next (h .payload)) at e)
+pub name-judged : {strict : Bool} {s es es′ links′ : List ℕ} {at names keyed next : ℕ} {h : Header} {o : Options} {a : State} {r : Out} (b : Name h) → o .strict ≡ strict
+    → (cs : Case s es at names keyed next h o a) (p : ℕ) → p ≡ h .payload → length es ≡ 256 → names ≤ 256 → eqb keyed 1 && eqb (h .code + 5) 11 ≡ false → p ≤ length s - next
+    → isText (partOf s (h .code + 5) next p .item) && not (utf8 (partOf s (h .code + 5) next p .item .content)) ≡ false
+    → Entered strict s es es′ links′ names (h .code + 5) next (next + p) r → Judged o s es′ names a (headed o a (some h) (drop at s)) r
+unfolding isKey
+name-judged {strict} {s} {es} {es′} {links′} {at} {names} {keyed} {next} {h} {o} {a} {r} b so cs p ep size few key whole text t = go t
+  where
+    strictly : (v : Bool) → strict && isKnown s es names (partOf s (h .code + 5) next (next + p - next)) ≡ v → o .strict && isKnown s es names (partOf s (h .code + 5) next p) ≡ v
+    strictly v e = rw so (rw (part-size next p) at e)
 
     high : 10 ≤ h .code + 5
     high = omega (arith, b .high)
 
-    go : Entered strict s es es′ links′ names (h .code + 5) next (next + h .payload) r → Judged o s es′ names a (headed o a (some h) (drop at s)) r
-    go (known z q) = subst (λ (v : Out). Judged o s es′ names a (headed o a (some h) (drop at s)) v) (sym q) (name-known cs (h .code + 5) (b .form) plain key whole text high (strictly true z))
-    go (full z m q) = subst (λ (v : Out). Judged o s es′ names a (headed o a (some h) (drop at s)) v) (sym q) (name-full cs (h .code + 5) (b .form) plain key whole text high (strictly false z) size few m)
+    go : Entered strict s es es′ links′ names (h .code + 5) next (next + p) r → Judged o s es′ names a (headed o a (some h) (drop at s)) r
+    go (known z q) = subst (λ (v : Out). Judged o s es′ names a (headed o a (some h) (drop at s)) v) (sym q) (name-known cs p ep (h .code + 5) (b .form) (name-plain b) key whole text high (strictly true z))
+    go (full z m q) = subst (λ (v : Out). Judged o s es′ names a (headed o a (some h) (drop at s)) v) (sym q) (name-full cs p ep (h .code + 5) (b .form) (name-plain b) key whole text high (strictly false z) size few m)
     go (entered z m q em f) =
         subst (λ (v : Out). Judged o s es′ names a (headed o a (some h) (drop at s)) v) (sym q)
-        (name-fresh cs (h .code + 5) (b .form) plain key whole text high (strictly false z) size few m es′ (rw (part-size next (h .payload)) at em))
+        (name-fresh cs p ep (h .code + 5) (b .form) (name-plain b) key whole text high (strictly false z) size few m es′ (rw (part-size next p) at em))

@@ -55,9 +55,9 @@ module _ (o : Options) (a : State) (h : Header) (bs : List ℕ) (f : Form) (ef :
   unfolding headed itemRules isMissing orNull ladder rule fail
   missing e = rw (ef, e) (ladder-is _ _ ∙ pick-no _ _ short ∙ pick-yes _ _ refl)
 
-pub waste : (o : Options) (a : State) (h : Header) (bs : List ℕ) → o .strict && (isLong h || isNegativeAlias h) ≡ true → headed o a (some h) bs ≡ fail 11 (a .at)
+pub waste : (o : Options) (a : State) (h : Header) (bs : List ℕ) {strict : Bool} → o .strict ≡ strict → strict && (isLong h || isNegativeAlias h) ≡ true → headed o a (some h) bs ≡ fail 11 (a .at)
 unfolding headed itemRules ladder rule fail
-waste o a h bs e = ladder-is _ _ ∙ pick-yes _ _ e
+waste o a h bs so e = ladder-is _ _ ∙ pick-yes _ _ (ap (λ (b : Bool). b && (isLong h || isNegativeAlias h)) so ∙ e)
 
 -- ---- an item by its header
 

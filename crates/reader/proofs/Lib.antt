@@ -3,3 +3,5 @@ pub mod Ladder
 pub mod Entries
 pub mod Flat
 pub mod Contents
+pub mod NameEntry
+pub mod Heads

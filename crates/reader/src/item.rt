@@ -73,7 +73,7 @@ fn container(h: Header, next: usize, depth: usize) -> Out
 
 // A reference: judged by its index, and as the key or the symbol that it stands for.
 fn reference(h: Header, next: usize, names: usize, keyed: usize, entries: &[u64; SymbolTable::MAX_ENTRIES]) -> Out
-    requires { ⌜ (h .code ≡ 7) × (names ≤ 256) ⌝ }
+    requires { ⌜ (h .code ≡ 7) × (names ≤ 256) × (length (now entries) ≡ 256) ⌝ }
     ensures moves { λ r. ⌜ ((strict : Bool) (s links : List ℕ) (at depth : ℕ) → Moved strict s (now (entries .entry)) links at next names → Moves strict s (now (entries .entry)) links at names depth r) ⌝ }
     ensures judged { λ r. ⌜ ((s : List ℕ) (o : Options) (a : State) (bs : List ℕ) (at : ℕ) → Case s (now (entries .entry)) at names keyed next h o a
         → Judged o s (now (entries .entry)) names a (headed o a (some h) bs) r) ⌝ }

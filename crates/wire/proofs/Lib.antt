@@ -1,4 +1,7 @@
 -- Laws for the leaves.
 pub mod HeaderLaws
-pub mod Utf8Laws
 pub mod SameLaws
+pub mod LeadBytes
+pub mod LocalRule
+pub mod AsciiRuns
+pub mod Ranges

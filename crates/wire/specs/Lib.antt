@@ -1,2 +1,3 @@
 -- What the answers of the leaves mean.
 pub mod Heads
+pub mod Local

@@ -1,26 +1,34 @@
-use mathlib.Core.Path.{sym}
-use native.Mathlib.Omega.{arith}
-use Rattle.wire.proofs.Utf8Laws.{leads-0, leads-1, leads-2, leads-3, leads-low, leads-high}
+-- `leads` goes by one bound after the other, as `leadsBy` does. Assumes nothing.
+use mathlib.Core.Path.{sym, _∙_}
+use Rattle.format.specs.Choice.{pick}
+use Rattle.format.proofs.Tests.{leb-yes, leb-no}
+use Rattle.wire.proofs.LeadBytes.{leadsBy, leads-by}
 use Rattle.wire.proofs.utf8.leads.Statement.{statement}
 use Rattle.wire.proofs.utf8.leads.Tie as tie
 
 returns : tie.Need-returns
-returns c = sym (leads-0 _ (c .if1 .taken))
+unfolding leadsBy pick
+returns c = sym (leads-by _ ∙ rw (leb-yes (c .if1 .taken)))
 
 returns-2 : tie.Need-returns-2
-returns-2 c = sym (leads-low _ (omega arith) (c .if2 .taken))
+unfolding leadsBy pick
+returns-2 c = sym (leads-by _ ∙ rw (leb-no (c .before .if1 .left), leb-yes (c .if2 .taken)))
 
 returns-3 : tie.Need-returns-3
-returns-3 c = sym (leads-1 _ (omega arith) (c .if3 .taken))
+unfolding leadsBy pick
+returns-3 c = sym (leads-by _ ∙ rw (leb-no (c .before .before .if1 .left), leb-no (c .before .if2 .left), leb-yes (c .if3 .taken)))
 
 returns-4 : tie.Need-returns-4
-returns-4 c = sym (leads-2 _ (omega arith) (c .if4 .taken))
+unfolding leadsBy pick
+returns-4 c = sym (leads-by _ ∙ rw (leb-no (c .before .before .before .if1 .left), leb-no (c .before .before .if2 .left), leb-no (c .before .if3 .left), leb-yes (c .if4 .taken)))
 
 returns-5 : tie.Need-returns-5
-returns-5 c = sym (leads-3 _ (omega arith) (c .if5 .taken))
+unfolding leadsBy pick
+returns-5 c = sym (leads-by _ ∙ rw (leb-no (c .before .before .before .before .if1 .left), leb-no (c .before .before .before .if2 .left), leb-no (c .before .before .if3 .left), leb-no (c .before .if4 .left), leb-yes (c .if5 .taken)))
 
 returns-6 : tie.Need-returns-6
-returns-6 c = sym (leads-high _ (omega arith))
+unfolding leadsBy pick
+returns-6 c = sym (leads-by _ ∙ rw (leb-no (c .before .before .before .before .if1 .left), leb-no (c .before .before .before .if2 .left), leb-no (c .before .before .if3 .left), leb-no (c .before .if4 .left), leb-no (c .if5 .left)))
 
 pub leads-spec : {M : Type 1} → statement M
 leads-spec = tie.close (tie.spec returns returns-2 returns-3 returns-4 returns-5 returns-6)
