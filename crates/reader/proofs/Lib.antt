@@ -5,3 +5,5 @@ pub mod Flat
 pub mod Contents
 pub mod NameEntry
 pub mod Heads
+pub mod LastRule
+pub mod Turns

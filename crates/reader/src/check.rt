@@ -32,7 +32,17 @@ pub fn walk(bytes: &[u8], mode: Mode, most: usize) -> Checked
     let mut links = [0u16; 512];
     let strict = mode.is_strict();
     // more fields than there are bytes, so that the bytes end first
-    match crate::fields::fields(bytes, strict, Bundle::MAX_DEPTH, FieldCount(16385), 0, 0, most, &mut entries, &mut links) {
+    match crate::fields::fields(
+        bytes,
+        strict,
+        Bundle::MAX_DEPTH,
+        FieldCount(16385),
+        0,
+        0,
+        most,
+        &mut entries,
+        &mut links,
+    ) {
         Step::Bad(k, p) => Checked::Failed(k, p),
         Step::End(left, u) => {
             if u.keyed == 1 {

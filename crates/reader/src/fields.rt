@@ -53,41 +53,55 @@ pub fn fields(
     let mut left = count.0;
     while 0 < left {
         if s.len() <= at {
-            return Step::End(left, Cursor { at, names, rows, keyed });
+            return Step::End(
+                left,
+                Cursor {
+                    at,
+                    names,
+                    rows,
+                    keyed,
+                },
+            );
         }
-        let item = crate::item::one(s, strict, depth, at, names, keyed, entries, links);
-        if let Out::Bad(k) = item {
-            return Step::Bad(k, at);
-        }
-        if rows == 0 {
-            return Step::Bad(Error::TooManyRows, at);
-        }
-        rows -= 1;
-        match item {
+        match crate::item::next(s, strict, depth, at, names, rows, keyed, entries, links) {
             Out::Bad(k) => {
                 return Step::Bad(k, at);
             }
             Out::Value(u) => {
                 at = u;
+                rows -= 1;
                 keyed = 0;
                 left -= 1;
             }
             Out::Key(u) => {
                 at = u;
+                rows -= 1;
                 keyed = 1;
             }
             Out::NewSymbol(u) => {
                 at = u;
                 names += 1;
+                rows -= 1;
                 keyed = 0;
                 left -= 1;
             }
             Out::NewKey(u) => {
                 at = u;
                 names += 1;
+                rows -= 1;
                 keyed = 1;
             }
-            Out::Container(n, u) => match fields(s, strict, depth - 1, n, u, names, rows, entries, links) {
+            Out::Container(n, u) => match fields(
+                s,
+                strict,
+                depth - 1,
+                n,
+                u,
+                names,
+                rows - 1,
+                entries,
+                links,
+            ) {
                 Step::Bad(k, p) => {
                     return Step::Bad(k, p);
                 }
@@ -104,5 +118,10 @@ pub fn fields(
             },
         }
     }
-    Step::Good(Cursor { at, names, rows, keyed })
+    Step::Good(Cursor {
+        at,
+        names,
+        rows,
+        keyed,
+    })
 }

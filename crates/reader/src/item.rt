@@ -1,20 +1,21 @@
-// One item, judged by the rules of reading in their order, but for the last, the count of rows.
+// One item, judged by the rules of reading in their order.
 ghost use mathlib.Core.Path.{_≡_};
 ghost use mathlib.Core.Bool.{Bool, true, false, not};
 ghost use mathlib.Core.List.{List};
 ghost use mathlib.Core.Option.{some, none};
-ghost use Prim.Native.Nat.{ℕ, _+_, _-_, _≤_, _<_};
+ghost use Prim.Native.Nat.{ℕ, _+_, _-_, _≤_, _<_, min};
 ghost use lib.Dec.{eqb, leb};
 ghost use lib.ListN.{length, take, drop};
 ghost use Rattle.format.specs.Choice.{_&&_, _||_};
 ghost use Rattle.format.specs.Header.{headerOf, isLong, isNegativeAlias};
+ghost use Rattle.format.specs.Limits.{max-rows};
 ghost use Rattle.format.specs.Utf8.{utf8};
 ghost use Rattle.format.specs.Reading.{Options, State, headed, item};
 ghost use Rattle.symbols.specs.Chains.{Chained};
-ghost use Rattle.reader.specs.Judging.{Fair, Moved, Moves, Stands, Judged, Case, Body, Name, freshOf, Entered};
+ghost use Rattle.reader.specs.Judging.{Fair, Moved, Moves, Stands, Judged, Case, Body, Name, freshOf, Entered, rowlessOf, HasRow, Takes};
+use format::ByteLength;
 use format::Error;
 use format::FieldCount;
-use format::ByteLength;
 use format::Header;
 use format::SymbolTable;
 use symbols::lookup::Lookup;
@@ -72,7 +73,13 @@ fn container(h: Header, next: usize, depth: usize) -> Out
 }
 
 // A reference: judged by its index, and as the key or the symbol that it stands for.
-fn reference(h: Header, next: usize, names: usize, keyed: usize, entries: &[u64; SymbolTable::MAX_ENTRIES]) -> Out
+fn reference(
+    h: Header,
+    next: usize,
+    names: usize,
+    keyed: usize,
+    entries: &[u64; SymbolTable::MAX_ENTRIES],
+) -> Out
     requires { ⌜ (h .code ≡ 7) × (names ≤ 256) × (length (now entries) ≡ 256) ⌝ }
     ensures moves { λ r. ⌜ ((strict : Bool) (s links : List ℕ) (at depth : ℕ) → Moved strict s (now (entries .entry)) links at next names → Moves strict s (now (entries .entry)) links at names depth r) ⌝ }
     ensures judged { λ r. ⌜ ((s : List ℕ) (o : Options) (a : State) (bs : List ℕ) (at : ℕ) → Case s (now (entries .entry)) at names keyed next h o a
@@ -163,7 +170,14 @@ fn new_name(
             if SymbolTable::MAX_ENTRIES <= names {
                 return Out::Bad(Error::TooManyEntries);
             }
-            symbols::lookup::enter(s, s, entries, links, names, next as u64 * 562949953421312 + key);
+            symbols::lookup::enter(
+                s,
+                s,
+                entries,
+                links,
+                names,
+                next as u64 * 562949953421312 + key,
+            );
             fresh(kind, e)
         }
     }
@@ -272,8 +286,8 @@ fn judge(
     }
 }
 
-// One item at an offset.
-pub fn one(
+// One item at an offset, by all rules but the last, the count of rows.
+fn one(
     s: &[u8],
     strict: bool,
     depth: usize,
@@ -292,4 +306,42 @@ pub fn one(
         Head::Cut => Out::Bad(Error::Truncated),
         Head::Whole(h) => judge(s, strict, depth, h, at, names, keyed, entries, links),
     }
+}
+
+// An item for which there is no row: its own error, or that of the last rule.
+fn rowless(item: Out) -> Out
+    ensures { λ r. ⌜ r ≡ rowlessOf item ⌝ }
+{
+    match item {
+        Out::Bad(k) => Out::Bad(k),
+        Out::Value(_) => Out::Bad(Error::TooManyRows),
+        Out::Key(_) => Out::Bad(Error::TooManyRows),
+        Out::NewSymbol(_) => Out::Bad(Error::TooManyRows),
+        Out::NewKey(_) => Out::Bad(Error::TooManyRows),
+        Out::Container(_, _) => Out::Bad(Error::TooManyRows),
+    }
+}
+
+// One item, by all rules.
+pub fn next(
+    s: &[u8],
+    strict: bool,
+    depth: usize,
+    at: usize,
+    names: usize,
+    rows: usize,
+    keyed: usize,
+    entries: &mut [u64; SymbolTable::MAX_ENTRIES],
+    links: &mut [u16; 512],
+) -> Out
+    requires { ⌜ (at ≤ length (now s)) × (length (now s) ≤ 16384) × Fair strict (now s) (now entries) (now links) names ⌝ }
+    ensures moves { λ r. ⌜ Moves strict (now (s .entry)) (now (entries .exit)) (now (links .exit)) at names depth r × HasRow rows r ⌝ }
+    ensures takes { λ r. ⌜ ((o : Options) (a : State) → o .strict ≡ strict → Stands (now (s .entry)) (now (entries .entry)) at names keyed a → length (a .place .opened) + depth ≡ 32
+        → length (a .found) + rows ≡ min max-rows (o .capacity) → Takes o (now (s .entry)) (now (entries .exit)) names rows a (item o a (drop at (now (s .entry)))) r) ⌝ }
+{
+    let item = one(s, strict, depth, at, names, keyed, entries, links);
+    if rows == 0 {
+        return rowless(item);
+    }
+    item
 }

@@ -1,15 +1,28 @@
+use native.Mathlib.Omega.{arith}
+use mathlib.Core.Path.{_≡_, refl, sym, ap, _∙_}
+use mathlib.Core.Bool.{Bool, false}
+use Prim.Native.Nat.{_+_, _-_, _≤_, min}
+use lib.Dec.{eqb}
+use lib.ListN.{length}
+use borrow.Author.Needs.{needs}
+use Rattle.format.specs.Limits.{max-rows}
+use Rattle.format.specs.Place.{Place}
+use Rattle.format.specs.Reading.{Options, State}
+use Rattle.reader.specs.Judging.{Stands}
+use Rattle.reader.specs.Lanes.{Lane, Leads}
+use Rattle.reader.proofs.Turns.{cursor, Along, at-place, start-field, field-bad, field-value, field-symbol, field-key, field-new-key, field-held-bad, field-held-end, field-held-good, along-value, along-key, along-held}
 use Prim.Native.Nat.{ℕ, _<_}
 use borrow.Fn.Kinds.{In}
 use borrow.Fn.PlainCycle.{Measures, is, falls, and}
 use Rattle.reader.proofs.fields.fields.Reads as fields
 use Rattle.reader.proofs.fields.fields.Kinds as fields-kinds
 use Rattle.reader.proofs.fields.+fields.Lts-fields as fields-lts
-use Rattle.reader.proofs.item.one.Reads as one-reads
+use Rattle.reader.proofs.item.next.Reads as next-reads
 use Rattle.reader.proofs.fields.+fields.{statement}
-use Rattle.reader.proofs.fields.+fields.Tie.{close}
+use Rattle.reader.proofs.fields.+fields.Tie.{close as done}
 
 abbrev μ-fields : Measures 3 fields-kinds.ps ℕ
-μ-fields κs a = ?
+μ-fields κs a = length (a .0 .now) - a .1 .1 .1 .1 .0
 
 abbrev fields-at : ℕ → In 3 fields-kinds.ps
 fields-at t = and 3 fields-kinds.ps (is 3 fields-kinds.ps μ-fields t) fields.Pre
@@ -19,349 +32,359 @@ fields-below t = and 3 fields-kinds.ps (falls 3 fields-kinds.ps _<_ μ-fields t)
 
 abbrev fields-Inv-loop : fields-lts.InvT-loop
 fields-Inv-loop s strict depth from known free entries₀ links₀ at₀ names₀ rows₀ keyed₀ left₀ entries links at names rows keyed left =
-    ?
+    Along strict s entries links from left₀ at names keyed left
+    × ((Q : ℕ → Bool → Place) (o : Options) (a : State) → o .strict ≡ strict → Lane Q depth left₀ → Stands s entries₀ from known 0 a → length (a .found) + free ≡ min max-rows (o .capacity) → a .place ≡ Q left₀ false
+    → Leads o s entries (cursor at names rows keyed) (Q left (eqb keyed 1)) a)
 
 abbrev fields-μ-loop : fields-lts.MeasureT-loop
-fields-μ-loop s strict depth from known free entries₀ links₀ at₀ names₀ rows₀ keyed₀ left₀ entries links at names rows keyed left =
-    ?
+fields-μ-loop s strict depth from known free entries₀ links₀ at₀ names₀ rows₀ keyed₀ left₀ entries links at names rows keyed left = length s - at
 
 -- src/fields.rt:54:5
 fields-loop-holds : (t : ℕ) → fields-lts.Need-loop-holds (
-  one-reads.Asked,
-  one-reads.Learnt,
+  next-reads.Asked,
+  next-reads.Learnt,
   fields-below t,
   fields.Post,
 ) (fields-at t) fields.Post fields-Inv-loop fields-μ-loop
-fields-loop-holds t c = ?
+fields-loop-holds t c = (record { fair = c .before .pre .1 .2; within = c .before .pre .1 .0; back = omega arith; most = omega arith; rest = λ _. refl }, λ Q o a so l h f e. start-field Q _ a h f e)
 
 -- src/fields.rt:56:13
 fields-returns : (t : ℕ) → fields-lts.Need-returns (
-  one-reads.Asked,
-  one-reads.Learnt,
+  next-reads.Asked,
+  next-reads.Learnt,
   fields-below t,
   fields.Post,
 ) (fields-at t) fields.Post fields-Inv-loop fields-μ-loop
-fields-returns t c = ?
+fields-returns t c = ((c .before .before .loop .inv .0 .fair, c .if1 .taken, c .before .loop-test .taken, c .before .before .loop .inv .0 .most), λ Q o a so l h f e. c .before .before .loop .inv .1 Q o a so l h f e)
 
--- src/fields.rt:58:13
-fields-one-requires : (t : ℕ) → fields-lts.Need-one-requires (
-  one-reads.Asked,
-  one-reads.Learnt,
+-- src/fields.rt:66:15
+fields-next-requires : (t : ℕ) → fields-lts.Need-next-requires (
+  next-reads.Asked,
+  next-reads.Learnt,
   fields-below t,
   fields.Post,
 ) (fields-at t) fields.Post fields-Inv-loop fields-μ-loop
-fields-one-requires t c κs = ?
-
--- src/fields.rt:59:25
-fields-enum-known-item : (t : ℕ) → fields-lts.Need-enum-known-item (
-  one-reads.Asked,
-  one-reads.Learnt,
-  fields-below t,
-  fields.Post,
-) (fields-at t) fields.Post fields-Inv-loop fields-μ-loop
-fields-enum-known-item t c = ?
-
--- src/fields.rt:60:13
-fields-returns-2 : (t : ℕ) → fields-lts.Need-returns-2 (
-  one-reads.Asked,
-  one-reads.Learnt,
-  fields-below t,
-  fields.Post,
-) (fields-at t) fields.Post fields-Inv-loop fields-μ-loop
-fields-returns-2 t c = ?
-
--- src/fields.rt:63:13
-fields-returns-3 : (t : ℕ) → fields-lts.Need-returns-3 (
-  one-reads.Asked,
-  one-reads.Learnt,
-  fields-below t,
-  fields.Post,
-) (fields-at t) fields.Post fields-Inv-loop fields-μ-loop
-fields-returns-3 t c = ?
-
--- src/fields.rt:65:9
-fields-sub-rows : (t : ℕ) → fields-lts.Need-sub-rows (
-  one-reads.Asked,
-  one-reads.Learnt,
-  fields-below t,
-  fields.Post,
-) (fields-at t) fields.Post fields-Inv-loop fields-μ-loop
-fields-sub-rows t c = ?
+fields-next-requires t c κs = (c .before .before .before .before .loop .inv .0 .within, c .before .before .before .before .before .before .pre .1 .1, c .before .before .before .before .loop .inv .0 .fair)
 
 -- src/fields.rt:67:22
-fields-enum-known-item-2 : (t : ℕ) → fields-lts.Need-enum-known-item-2 (
-  one-reads.Asked,
-  one-reads.Learnt,
+fields-enum-known-k : (t : ℕ) → fields-lts.Need-enum-known-k (
+  next-reads.Asked,
+  next-reads.Learnt,
   fields-below t,
   fields.Post,
 ) (fields-at t) fields.Post fields-Inv-loop fields-μ-loop
-fields-enum-known-item-2 t c = ?
+fields-enum-known-k t c = search needs
 
 -- src/fields.rt:68:17
-fields-returns-4 : (t : ℕ) → fields-lts.Need-returns-4 (
-  one-reads.Asked,
-  one-reads.Learnt,
+fields-returns-2 : (t : ℕ) → fields-lts.Need-returns-2 (
+  next-reads.Asked,
+  next-reads.Learnt,
   fields-below t,
   fields.Post,
 ) (fields-at t) fields.Post fields-Inv-loop fields-μ-loop
-fields-returns-4 t c = ?
+fields-returns-2 t c = (tt, λ Q o a so l h f e. field-bad Q _ _ (c .before .before .before .before .before .before .before .before .loop .left) l (c .before .before .before .before .before .before .before .loop-test .taken) (c .before .before .before .before .before .before .before .before .loop .inv .0 .most) (c .before .before .before .before .before .before .before .before .loop .inv .1 Q o a so l h f e) (c .before .before .before .before .before .before .if1 .left) _ _ (λ b. c .before .before .before .next .ensures .1 o b so) _ (c .before .k .given .1))
 
 -- src/fields.rt:70:24
-fields-enum-known-item-3 : (t : ℕ) → fields-lts.Need-enum-known-item-3 (
-  one-reads.Asked,
-  one-reads.Learnt,
+fields-enum-known-u : (t : ℕ) → fields-lts.Need-enum-known-u (
+  next-reads.Asked,
+  next-reads.Learnt,
   fields-below t,
   fields.Post,
 ) (fields-at t) fields.Post fields-Inv-loop fields-μ-loop
-fields-enum-known-item-3 t c = ?
+fields-enum-known-u t c = search needs
 
--- src/fields.rt:73:17
-fields-sub-left : (t : ℕ) → fields-lts.Need-sub-left (
-  one-reads.Asked,
-  one-reads.Learnt,
+-- src/fields.rt:72:17
+fields-sub-rows : (t : ℕ) → fields-lts.Need-sub-rows (
+  next-reads.Asked,
+  next-reads.Learnt,
   fields-below t,
   fields.Post,
 ) (fields-at t) fields.Post fields-Inv-loop fields-μ-loop
-fields-sub-left t c = ?
+fields-sub-rows t c = let g = rw (c .before .u .given .1) at (c .before .before .before .next .ensures .0 .1) in omega arith
+
+-- src/fields.rt:74:17
+fields-sub-left : (t : ℕ) → fields-lts.Need-sub-left (
+  next-reads.Asked,
+  next-reads.Learnt,
+  fields-below t,
+  fields.Post,
+) (fields-at t) fields.Post fields-Inv-loop fields-μ-loop
+fields-sub-left t c = search needs
 
 -- src/fields.rt:54:5
 fields-loop-less : (t : ℕ) → fields-lts.Need-loop-less (
-  one-reads.Asked,
-  one-reads.Learnt,
+  next-reads.Asked,
+  next-reads.Learnt,
   fields-below t,
   fields.Post,
 ) (fields-at t) fields.Post fields-Inv-loop fields-μ-loop
-fields-loop-less t c = ?
+fields-loop-less t c = let g = rw (c .before .u .given .1) at (c .before .before .before .next .ensures .0 .0) in omega (arith, g .on, g .within)
 
 -- src/fields.rt:54:5
 fields-loop-again : (t : ℕ) → fields-lts.Need-loop-again (
-  one-reads.Asked,
-  one-reads.Learnt,
+  next-reads.Asked,
+  next-reads.Learnt,
   fields-below t,
   fields.Post,
 ) (fields-at t) fields.Post fields-Inv-loop fields-μ-loop
-fields-loop-again t c = ?
+fields-loop-again t c = let g = rw (c .before .u .given .1) at (c .before .before .before .next .ensures .0 .0) in (along-value (c .before .before .before .before .before .before .before .before .loop .inv .0) (c .before .before .before .before .before .before .before .loop-test .taken) g, λ Q o a so l h f e. field-value Q _ _ (c .before .before .before .before .before .before .before .before .loop .left) l (c .before .before .before .before .before .before .before .loop-test .taken) (c .before .before .before .before .before .before .before .before .loop .inv .0 .most) (c .before .before .before .before .before .before .before .before .loop .inv .1 Q o a so l h f e) (c .before .before .before .before .before .before .if1 .left) _ _ (λ b. c .before .before .before .next .ensures .1 o b so) _ (c .before .u .given .1))
 
--- src/fields.rt:75:22
-fields-enum-known-item-4 : (t : ℕ) → fields-lts.Need-enum-known-item-4 (
-  one-reads.Asked,
-  one-reads.Learnt,
+-- src/fields.rt:76:22
+fields-enum-known-u-2 : (t : ℕ) → fields-lts.Need-enum-known-u-2 (
+  next-reads.Asked,
+  next-reads.Learnt,
   fields-below t,
   fields.Post,
 ) (fields-at t) fields.Post fields-Inv-loop fields-μ-loop
-fields-enum-known-item-4 t c = ?
+fields-enum-known-u-2 t c = search needs
+
+-- src/fields.rt:78:17
+fields-sub-rows-2 : (t : ℕ) → fields-lts.Need-sub-rows-2 (
+  next-reads.Asked,
+  next-reads.Learnt,
+  fields-below t,
+  fields.Post,
+) (fields-at t) fields.Post fields-Inv-loop fields-μ-loop
+fields-sub-rows-2 t c = let g = rw (c .before .u2 .given .1) at (c .before .before .before .next .ensures .0 .1) in omega arith
 
 -- src/fields.rt:54:5
 fields-loop-less-2 : (t : ℕ) → fields-lts.Need-loop-less-2 (
-  one-reads.Asked,
-  one-reads.Learnt,
+  next-reads.Asked,
+  next-reads.Learnt,
   fields-below t,
   fields.Post,
 ) (fields-at t) fields.Post fields-Inv-loop fields-μ-loop
-fields-loop-less-2 t c = ?
+fields-loop-less-2 t c = let g = rw (c .before .u2 .given .1) at (c .before .before .before .next .ensures .0 .0) in omega (arith, g .on, g .within)
 
 -- src/fields.rt:54:5
 fields-loop-again-2 : (t : ℕ) → fields-lts.Need-loop-again-2 (
-  one-reads.Asked,
-  one-reads.Learnt,
+  next-reads.Asked,
+  next-reads.Learnt,
   fields-below t,
   fields.Post,
 ) (fields-at t) fields.Post fields-Inv-loop fields-μ-loop
-fields-loop-again-2 t c = ?
+fields-loop-again-2 t c = let g = rw (c .before .u2 .given .1) at (c .before .before .before .next .ensures .0 .0) in (along-key (c .before .before .before .before .before .before .before .before .loop .inv .0) (c .before .before .before .before .before .before .before .loop-test .taken) g, λ Q o a so l h f e. field-key Q _ _ (c .before .before .before .before .before .before .before .before .loop .left) l (c .before .before .before .before .before .before .before .loop-test .taken) (c .before .before .before .before .before .before .before .before .loop .inv .0 .most) (c .before .before .before .before .before .before .before .before .loop .inv .1 Q o a so l h f e) (c .before .before .before .before .before .before .if1 .left) _ _ (λ b. c .before .before .before .next .ensures .1 o b so) _ (c .before .u2 .given .1))
 
--- src/fields.rt:79:28
-fields-enum-known-item-5 : (t : ℕ) → fields-lts.Need-enum-known-item-5 (
-  one-reads.Asked,
-  one-reads.Learnt,
+-- src/fields.rt:81:28
+fields-enum-known-u-3 : (t : ℕ) → fields-lts.Need-enum-known-u-3 (
+  next-reads.Asked,
+  next-reads.Learnt,
   fields-below t,
   fields.Post,
 ) (fields-at t) fields.Post fields-Inv-loop fields-μ-loop
-fields-enum-known-item-5 t c = ?
-
--- src/fields.rt:81:17
-fields-add-names : (t : ℕ) → fields-lts.Need-add-names (
-  one-reads.Asked,
-  one-reads.Learnt,
-  fields-below t,
-  fields.Post,
-) (fields-at t) fields.Post fields-Inv-loop fields-μ-loop
-fields-add-names t c = ?
+fields-enum-known-u-3 t c = search needs
 
 -- src/fields.rt:83:17
-fields-sub-left-2 : (t : ℕ) → fields-lts.Need-sub-left-2 (
-  one-reads.Asked,
-  one-reads.Learnt,
+fields-add-names : (t : ℕ) → fields-lts.Need-add-names (
+  next-reads.Asked,
+  next-reads.Learnt,
   fields-below t,
   fields.Post,
 ) (fields-at t) fields.Post fields-Inv-loop fields-μ-loop
-fields-sub-left-2 t c = ?
+fields-add-names t c = let g = rw (c .before .u3 .given .1) at (c .before .before .before .next .ensures .0 .0) in omega (arith, g .fair .few)
+
+-- src/fields.rt:84:17
+fields-sub-rows-3 : (t : ℕ) → fields-lts.Need-sub-rows-3 (
+  next-reads.Asked,
+  next-reads.Learnt,
+  fields-below t,
+  fields.Post,
+) (fields-at t) fields.Post fields-Inv-loop fields-μ-loop
+fields-sub-rows-3 t c = let g = rw (c .before .u3 .given .1) at (c .before .before .before .next .ensures .0 .1) in omega arith
+
+-- src/fields.rt:86:17
+fields-sub-left-2 : (t : ℕ) → fields-lts.Need-sub-left-2 (
+  next-reads.Asked,
+  next-reads.Learnt,
+  fields-below t,
+  fields.Post,
+) (fields-at t) fields.Post fields-Inv-loop fields-μ-loop
+fields-sub-left-2 t c = search needs
 
 -- src/fields.rt:54:5
 fields-loop-less-3 : (t : ℕ) → fields-lts.Need-loop-less-3 (
-  one-reads.Asked,
-  one-reads.Learnt,
+  next-reads.Asked,
+  next-reads.Learnt,
   fields-below t,
   fields.Post,
 ) (fields-at t) fields.Post fields-Inv-loop fields-μ-loop
-fields-loop-less-3 t c = ?
+fields-loop-less-3 t c = let g = rw (c .before .u3 .given .1) at (c .before .before .before .next .ensures .0 .0) in omega (arith, g .on, g .within)
 
 -- src/fields.rt:54:5
 fields-loop-again-3 : (t : ℕ) → fields-lts.Need-loop-again-3 (
-  one-reads.Asked,
-  one-reads.Learnt,
+  next-reads.Asked,
+  next-reads.Learnt,
   fields-below t,
   fields.Post,
 ) (fields-at t) fields.Post fields-Inv-loop fields-μ-loop
-fields-loop-again-3 t c = ?
+fields-loop-again-3 t c = let g = rw (c .before .u3 .given .1) at (c .before .before .before .next .ensures .0 .0) in (along-value (c .before .before .before .before .before .before .before .before .loop .inv .0) (c .before .before .before .before .before .before .before .loop-test .taken) g, λ Q o a so l h f e. field-symbol Q _ _ (c .before .before .before .before .before .before .before .before .loop .left) l (c .before .before .before .before .before .before .before .loop-test .taken) (c .before .before .before .before .before .before .before .before .loop .inv .0 .most) (c .before .before .before .before .before .before .before .before .loop .inv .1 Q o a so l h f e) (c .before .before .before .before .before .before .if1 .left) _ _ (λ b. c .before .before .before .next .ensures .1 o b so) _ (c .before .u3 .given .1))
 
--- src/fields.rt:85:25
-fields-enum-known-item-6 : (t : ℕ) → fields-lts.Need-enum-known-item-6 (
-  one-reads.Asked,
-  one-reads.Learnt,
+-- src/fields.rt:88:25
+fields-enum-known-u-4 : (t : ℕ) → fields-lts.Need-enum-known-u-4 (
+  next-reads.Asked,
+  next-reads.Learnt,
   fields-below t,
   fields.Post,
 ) (fields-at t) fields.Post fields-Inv-loop fields-μ-loop
-fields-enum-known-item-6 t c = ?
+fields-enum-known-u-4 t c = search needs
 
--- src/fields.rt:87:17
+-- src/fields.rt:90:17
 fields-add-names-2 : (t : ℕ) → fields-lts.Need-add-names-2 (
-  one-reads.Asked,
-  one-reads.Learnt,
+  next-reads.Asked,
+  next-reads.Learnt,
   fields-below t,
   fields.Post,
 ) (fields-at t) fields.Post fields-Inv-loop fields-μ-loop
-fields-add-names-2 t c = ?
+fields-add-names-2 t c = let g = rw (c .before .u4 .given .1) at (c .before .before .before .next .ensures .0 .0) in omega (arith, g .fair .few)
+
+-- src/fields.rt:91:17
+fields-sub-rows-4 : (t : ℕ) → fields-lts.Need-sub-rows-4 (
+  next-reads.Asked,
+  next-reads.Learnt,
+  fields-below t,
+  fields.Post,
+) (fields-at t) fields.Post fields-Inv-loop fields-μ-loop
+fields-sub-rows-4 t c = let g = rw (c .before .u4 .given .1) at (c .before .before .before .next .ensures .0 .1) in omega arith
 
 -- src/fields.rt:54:5
 fields-loop-less-4 : (t : ℕ) → fields-lts.Need-loop-less-4 (
-  one-reads.Asked,
-  one-reads.Learnt,
+  next-reads.Asked,
+  next-reads.Learnt,
   fields-below t,
   fields.Post,
 ) (fields-at t) fields.Post fields-Inv-loop fields-μ-loop
-fields-loop-less-4 t c = ?
+fields-loop-less-4 t c = let g = rw (c .before .u4 .given .1) at (c .before .before .before .next .ensures .0 .0) in omega (arith, g .on, g .within)
 
 -- src/fields.rt:54:5
 fields-loop-again-4 : (t : ℕ) → fields-lts.Need-loop-again-4 (
-  one-reads.Asked,
-  one-reads.Learnt,
+  next-reads.Asked,
+  next-reads.Learnt,
   fields-below t,
   fields.Post,
 ) (fields-at t) fields.Post fields-Inv-loop fields-μ-loop
-fields-loop-again-4 t c = ?
+fields-loop-again-4 t c = let g = rw (c .before .u4 .given .1) at (c .before .before .before .next .ensures .0 .0) in (along-key (c .before .before .before .before .before .before .before .before .loop .inv .0) (c .before .before .before .before .before .before .before .loop-test .taken) g, λ Q o a so l h f e. field-new-key Q _ _ (c .before .before .before .before .before .before .before .before .loop .left) l (c .before .before .before .before .before .before .before .loop-test .taken) (c .before .before .before .before .before .before .before .before .loop .inv .0 .most) (c .before .before .before .before .before .before .before .before .loop .inv .1 Q o a so l h f e) (c .before .before .before .before .before .before .if1 .left) _ _ (λ b. c .before .before .before .next .ensures .1 o b so) _ (c .before .u4 .given .1))
 
--- src/fields.rt:90:28
-fields-enum-known-item-7 : (t : ℕ) → fields-lts.Need-enum-known-item-7 (
-  one-reads.Asked,
-  one-reads.Learnt,
+-- src/fields.rt:94:28
+fields-enum-known-n : (t : ℕ) → fields-lts.Need-enum-known-n (
+  next-reads.Asked,
+  next-reads.Learnt,
   fields-below t,
   fields.Post,
 ) (fields-at t) fields.Post fields-Inv-loop fields-μ-loop
-fields-enum-known-item-7 t c = ?
+fields-enum-known-n t c = search needs
 
--- src/fields.rt:90:61
+-- src/fields.rt:97:17
 fields-sub-fields : (t : ℕ) → fields-lts.Need-sub-fields (
-  one-reads.Asked,
-  one-reads.Learnt,
+  next-reads.Asked,
+  next-reads.Learnt,
   fields-below t,
   fields.Post,
 ) (fields-at t) fields.Post fields-Inv-loop fields-μ-loop
-fields-sub-fields t c = ?
+fields-sub-fields t c = let g = rw (c .before .n .given .1) at (c .before .before .before .next .ensures .0 .0) in omega (arith, g .0)
 
--- src/fields.rt:90:43
+-- src/fields.rt:101:17
+fields-sub-fields-2 : (t : ℕ) → fields-lts.Need-sub-fields-2 (
+  next-reads.Asked,
+  next-reads.Learnt,
+  fields-below t,
+  fields.Post,
+) (fields-at t) fields.Post fields-Inv-loop fields-μ-loop
+fields-sub-fields-2 t c = let g = rw (c .before .n .given .1) at (c .before .before .before .next .ensures .0 .1) in omega arith
+
+-- src/fields.rt:94:43
 fields-fields-requires : (t : ℕ) → fields-lts.Need-fields-requires (
-  one-reads.Asked,
-  one-reads.Learnt,
+  next-reads.Asked,
+  next-reads.Learnt,
   fields-below t,
   fields.Post,
 ) (fields-at t) fields.Post fields-Inv-loop fields-μ-loop
-fields-fields-requires t c κs = ?
+fields-fields-requires t c κs = let g = rw (c .before .before .before .n .given .1) at (c .before .before .before .before .before .next .ensures .0 .0) in (omega (arith, c .before .before .before .before .before .before .before .before .before .before .before .before .pre .0, g .2 .on, g .2 .within, c .before .before .before .before .before .before .before .before .before .before .loop .inv .0 .back, c .before .before .before .before .before .before .before .before .before .before .loop .inv .0 .most), (g .2 .within, c .before .before .before .before .before .before .before .before .before .before .before .before .pre .1 .1, g .2 .fair))
 
--- src/fields.rt:91:27
-fields-enum-known-k : (t : ℕ) → fields-lts.Need-enum-known-k (
-  one-reads.Asked,
-  one-reads.Learnt,
+-- src/fields.rt:105:27
+fields-enum-known-k-2 : (t : ℕ) → fields-lts.Need-enum-known-k-2 (
+  next-reads.Asked,
+  next-reads.Learnt,
   fields-below t,
   fields.Post,
 ) (fields-at t) fields.Post fields-Inv-loop fields-μ-loop
-fields-enum-known-k t c = ?
+fields-enum-known-k-2 t c = search needs
 
--- src/fields.rt:92:21
-fields-returns-5 : (t : ℕ) → fields-lts.Need-returns-5 (
-  one-reads.Asked,
-  one-reads.Learnt,
+-- src/fields.rt:106:21
+fields-returns-3 : (t : ℕ) → fields-lts.Need-returns-3 (
+  next-reads.Asked,
+  next-reads.Learnt,
   fields-below t,
   fields.Post,
 ) (fields-at t) fields.Post fields-Inv-loop fields-μ-loop
-fields-returns-5 t c = ?
+fields-returns-3 t c = let g = rw (c .before .before .before .before .before .before .before .n .given .1) at (c .before .before .before .before .before .before .before .before .before .next .ensures .0 .0) in (tt, λ Q o a so l h f e. field-held-bad Q _ _ (c .before .before .before .before .before .before .before .before .before .before .before .before .before .before .loop .left) l (c .before .before .before .before .before .before .before .before .before .before .before .before .before .loop-test .taken) (c .before .before .before .before .before .before .before .before .before .before .before .before .before .before .loop .inv .0 .most) (c .before .before .before .before .before .before .before .before .before .before .before .before .before .before .loop .inv .1 Q o a so l h f e) (c .before .before .before .before .before .before .before .before .before .before .before .before .if1 .left) _ _ (λ b. c .before .before .before .before .before .before .before .before .before .next .ensures .1 o b so) _ _ (c .before .before .before .before .before .before .before .n .given .1) (g .0) (g .1) _ _ (λ Q b. c .before .before .before .fields .ensures .1 Q o b so) _ _ (c .before .k2 .given .1))
 
--- src/fields.rt:94:30
+-- src/fields.rt:108:30
 fields-enum-known-v : (t : ℕ) → fields-lts.Need-enum-known-v (
-  one-reads.Asked,
-  one-reads.Learnt,
+  next-reads.Asked,
+  next-reads.Learnt,
   fields-below t,
   fields.Post,
 ) (fields-at t) fields.Post fields-Inv-loop fields-μ-loop
-fields-enum-known-v t c = ?
+fields-enum-known-v t c = search needs
 
--- src/fields.rt:95:21
-fields-returns-6 : (t : ℕ) → fields-lts.Need-returns-6 (
-  one-reads.Asked,
-  one-reads.Learnt,
+-- src/fields.rt:109:21
+fields-returns-4 : (t : ℕ) → fields-lts.Need-returns-4 (
+  next-reads.Asked,
+  next-reads.Learnt,
   fields-below t,
   fields.Post,
 ) (fields-at t) fields.Post fields-Inv-loop fields-μ-loop
-fields-returns-6 t c = ?
+fields-returns-4 t c = let g = rw (c .before .before .before .before .before .before .before .n .given .1) at (c .before .before .before .before .before .before .before .before .before .next .ensures .0 .0) in let w = rw (c .before .v .given .1) at (c .before .before .before .fields .ensures .0) in (tt, λ Q o a so l h f e. field-held-end Q _ _ (c .before .before .before .before .before .before .before .before .before .before .before .before .before .before .loop .left) l (c .before .before .before .before .before .before .before .before .before .before .before .before .before .loop-test .taken) (c .before .before .before .before .before .before .before .before .before .before .before .before .before .before .loop .inv .0 .most) (c .before .before .before .before .before .before .before .before .before .before .before .before .before .before .loop .inv .1 Q o a so l h f e) (c .before .before .before .before .before .before .before .before .before .before .before .before .if1 .left) _ _ (λ b. c .before .before .before .before .before .before .before .before .before .next .ensures .1 o b so) _ _ (c .before .before .before .before .before .before .before .n .given .1) (g .0) (g .1) _ _ (λ Q b. c .before .before .before .fields .ensures .1 Q o b so) _ _ (c .before .v .given .1) (w .2) (w .1))
 
--- src/fields.rt:97:28
+-- src/fields.rt:111:28
 fields-enum-known-v-2 : (t : ℕ) → fields-lts.Need-enum-known-v-2 (
-  one-reads.Asked,
-  one-reads.Learnt,
+  next-reads.Asked,
+  next-reads.Learnt,
   fields-below t,
   fields.Post,
 ) (fields-at t) fields.Post fields-Inv-loop fields-μ-loop
-fields-enum-known-v-2 t c = ?
+fields-enum-known-v-2 t c = search needs
 
--- src/fields.rt:102:21
+-- src/fields.rt:116:21
 fields-sub-left-3 : (t : ℕ) → fields-lts.Need-sub-left-3 (
-  one-reads.Asked,
-  one-reads.Learnt,
+  next-reads.Asked,
+  next-reads.Learnt,
   fields-below t,
   fields.Post,
 ) (fields-at t) fields.Post fields-Inv-loop fields-μ-loop
-fields-sub-left-3 t c = ?
+fields-sub-left-3 t c = search needs
 
 -- src/fields.rt:54:5
 fields-loop-less-5 : (t : ℕ) → fields-lts.Need-loop-less-5 (
-  one-reads.Asked,
-  one-reads.Learnt,
+  next-reads.Asked,
+  next-reads.Learnt,
   fields-below t,
   fields.Post,
 ) (fields-at t) fields.Post fields-Inv-loop fields-μ-loop
-fields-loop-less-5 t c = ?
+fields-loop-less-5 t c = let g = rw (c .before .before .before .before .before .before .before .n .given .1) at (c .before .before .before .before .before .before .before .before .before .next .ensures .0 .0) in let w = rw (c .before .v2 .given .1) at (c .before .before .before .fields .ensures .0) in omega (arith, g .2 .on, g .2 .within, w .1, w .2)
 
 -- src/fields.rt:54:5
 fields-loop-again-5 : (t : ℕ) → fields-lts.Need-loop-again-5 (
-  one-reads.Asked,
-  one-reads.Learnt,
+  next-reads.Asked,
+  next-reads.Learnt,
   fields-below t,
   fields.Post,
 ) (fields-at t) fields.Post fields-Inv-loop fields-μ-loop
-fields-loop-again-5 t c = ?
+fields-loop-again-5 t c = let g = rw (c .before .before .before .before .before .before .before .n .given .1) at (c .before .before .before .before .before .before .before .before .before .next .ensures .0 .0) in let w = rw (c .before .v2 .given .1) at (c .before .before .before .fields .ensures .0) in (along-held (c .before .before .before .before .before .before .before .before .before .before .before .before .before .before .loop .inv .0) (c .before .before .before .before .before .before .before .before .before .before .before .before .before .loop-test .taken) _ (g .2) (w .0) (w .1) (w .2), λ Q o a so l h f e. field-held-good Q _ _ (c .before .before .before .before .before .before .before .before .before .before .before .before .before .before .loop .left) l (c .before .before .before .before .before .before .before .before .before .before .before .before .before .loop-test .taken) (c .before .before .before .before .before .before .before .before .before .before .before .before .before .before .loop .inv .0 .most) (c .before .before .before .before .before .before .before .before .before .before .before .before .before .before .loop .inv .1 Q o a so l h f e) (c .before .before .before .before .before .before .before .before .before .before .before .before .if1 .left) _ _ (λ b. c .before .before .before .before .before .before .before .before .before .next .ensures .1 o b so) _ _ (c .before .before .before .before .before .before .before .n .given .1) (g .0) (g .1) _ _ (λ Q b. c .before .before .before .fields .ensures .1 Q o b so) _ (c .before .v2 .given .1) (w .3))
 
 -- src/fields.rt:32:1
-fields-returns-7 : (t : ℕ) → fields-lts.Need-returns-7 (
-  one-reads.Asked,
-  one-reads.Learnt,
+fields-returns-5 : (t : ℕ) → fields-lts.Need-returns-5 (
+  next-reads.Asked,
+  next-reads.Learnt,
   fields-below t,
   fields.Post,
 ) (fields-at t) fields.Post fields-Inv-loop fields-μ-loop
-fields-returns-7 t c = ?
+fields-returns-5 t c = let z : c .before .loop .left ≡ 0 = omega arith in ((c .before .loop .inv .0 .fair, omega (arith, c .before .loop .inv .0 .back), c .before .loop .inv .0 .within, c .before .loop .inv .0 .rest z), λ Q o a so l h f e. at-place (ap (λ (n : ℕ). Q n (eqb (c .before .loop .keyed) 1)) z ∙ ap (λ (k : ℕ). Q 0 (eqb k 1)) (c .before .loop .inv .0 .rest z)) (c .before .loop .inv .1 Q o a so l h f e))
 
 pub +fields-spec : {M : Type 1} → statement M
-+fields-spec = close μ-fields λ t. fields-lts.spec (
-  one-reads.Asked,
-  one-reads.Learnt,
++fields-spec = done μ-fields λ t. fields-lts.spec (
+  next-reads.Asked,
+  next-reads.Learnt,
   fields-below t,
   fields.Post,
 )
@@ -371,38 +394,39 @@ pub +fields-spec : {M : Type 1} → statement M
     fields-μ-loop
     (fields-loop-holds t)
     (fields-returns t)
-    (fields-one-requires t)
-    (fields-enum-known-item t)
+    (fields-next-requires t)
+    (fields-enum-known-k t)
     (fields-returns-2 t)
-    (fields-returns-3 t)
+    (fields-enum-known-u t)
     (fields-sub-rows t)
-    (fields-enum-known-item-2 t)
-    (fields-returns-4 t)
-    (fields-enum-known-item-3 t)
     (fields-sub-left t)
     (fields-loop-less t)
     (fields-loop-again t)
-    (fields-enum-known-item-4 t)
+    (fields-enum-known-u-2 t)
+    (fields-sub-rows-2 t)
     (fields-loop-less-2 t)
     (fields-loop-again-2 t)
-    (fields-enum-known-item-5 t)
+    (fields-enum-known-u-3 t)
     (fields-add-names t)
+    (fields-sub-rows-3 t)
     (fields-sub-left-2 t)
     (fields-loop-less-3 t)
     (fields-loop-again-3 t)
-    (fields-enum-known-item-6 t)
+    (fields-enum-known-u-4 t)
     (fields-add-names-2 t)
+    (fields-sub-rows-4 t)
     (fields-loop-less-4 t)
     (fields-loop-again-4 t)
-    (fields-enum-known-item-7 t)
+    (fields-enum-known-n t)
     (fields-sub-fields t)
+    (fields-sub-fields-2 t)
     (fields-fields-requires t)
-    (fields-enum-known-k t)
-    (fields-returns-5 t)
+    (fields-enum-known-k-2 t)
+    (fields-returns-3 t)
     (fields-enum-known-v t)
-    (fields-returns-6 t)
+    (fields-returns-4 t)
     (fields-enum-known-v-2 t)
     (fields-sub-left-3 t)
     (fields-loop-less-5 t)
     (fields-loop-again-5 t)
-    (fields-returns-7 t)
+    (fields-returns-5 t)
