@@ -7,3 +7,4 @@ pub mod NameEntry
 pub mod Heads
 pub mod LastRule
 pub mod Turns
+pub mod Tops

@@ -2,8 +2,8 @@
 use Rattle.format.specs.declared.bundle.Bundle.{Bundle}
 use Rattle.format.specs.Error.{codeOf}
 use Rattle.format.specs.Answer.{Answer, good, fail}
-use Rattle.reader.specs.declared.check.Checked.{Checked}
-use Rattle.reader.specs.declared.check.Checked.the-variants as checked
+use Rattle.reader.specs.declared.checking.Checked.{Checked}
+use Rattle.reader.specs.declared.checking.Checked.the-variants as checked
 
 abbrev pub answerOf : Checked → Answer Bundle
 answerOf (checked.Good b) = good b

@@ -2,4 +2,3 @@
 pub mod Judging
 pub mod Lanes
 pub mod Answers
-pub mod Filling

@@ -1,7 +1,8 @@
-// The reader: one item, the fields of a container by recursion, and `check`.
-pub mod check;
-pub mod fields;
-pub mod fill;
-pub mod item;
+// The reader: one item, the fields of a container by recursion, `check` and `read`.
+mod checking;
+mod fields;
+mod item;
 
-pub use check::Checked;
+pub use checking::Checked;
+pub use checking::check;
+pub use checking::check_in;

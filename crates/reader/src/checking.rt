@@ -1,7 +1,6 @@
 // Checking a bundle: its counts, or an error.
 ghost use mathlib.Core.Path.{_≡_};
-ghost use Prim.Native.Nat.{_≤_, min};
-ghost use lib.ListN.{length};
+ghost use Prim.Native.Nat.{ℕ, _≤_, min};
 ghost use Rattle.format.specs.declared.error.Mode.the-variants.{Lenient};
 ghost use Rattle.format.specs.Limits.{max-rows};
 ghost use Rattle.format.specs.Reading.{options, counts};
@@ -20,10 +19,10 @@ pub enum Checked {
     Failed(Error, usize),
 }
 
-// A bundle read with a row limit.
+// The counts of a bundle of which most rows may be read.
 pub fn walk(bytes: &[u8], mode: Mode, most: usize) -> Checked
     requires { ⌜ most ≤ max-rows ⌝ }
-    ensures { λ r. ⌜ answerOf r ≡ counts (options mode most) (now (bytes .entry)) ⌝ }
+    ensures { λ r. ⌜ ((n : ℕ) → min max-rows n ≡ most → answerOf r ≡ counts (options mode n) (now (bytes .entry))) ⌝ }
 {
     if Bundle::MAX_BYTES < bytes.len() {
         return Checked::Failed(Error::TooLong, 0);

@@ -1,0 +1,17 @@
+-- The answer of a call by what the definitions say of it.
+use Prim.Native.Nat.{ℕ}
+use mathlib.Core.Bool.{Bool, true, false}
+use Rattle.format.specs.declared.bundle.Bundle.{Bundle}
+use Rattle.format.specs.declared.error.Mode.{Mode}
+use Rattle.format.specs.declared.error.Mode.the-variants.{Lenient, Strict}
+use Rattle.format.specs.Answer.{failed, good}
+use Rattle.format.specs.Answer as answer
+use Rattle.nachricht.specs.declared.Answer.{Answer}
+
+abbrev pub modeOf : Bool → Mode
+modeOf true = Strict
+modeOf false = Lenient
+
+unfoldable pub countsAnswer : answer.Answer Bundle → Answer
+countsAnswer (failed f) = record { error = f .code; place = f .place; side = f .side; count = 0; entries = 0; fields = 0 }
+countsAnswer (good b) = record { error = 0; place = 0; side = 0; count = b .rows; entries = b .entries; fields = b .fields }

@@ -1,0 +1,2 @@
+-- What the answers of the C interface are.
+pub mod Answers

@@ -1,0 +1,52 @@
+// The C interface, built as the static library `libnachricht.a`.
+ghost use mathlib.Core.Path.{_≡_};
+ghost use Rattle.format.specs.Limits.{max-rows};
+ghost use Rattle.format.specs.Reading.{options, counts};
+ghost use Rattle.nachricht.specs.Answers.{modeOf, countsAnswer};
+use format::Mode;
+use reader::Checked;
+
+// An answer: the error's number or 0, its place and side, and the counts.
+#[repr(C)]
+pub struct Answer {
+    pub error: u64,
+    pub place: u64,
+    pub side: u64,
+    pub count: u64,
+    pub entries: u64,
+    pub fields: u64,
+}
+
+fn mode_of(strict: bool) -> Mode
+    ensures { λ r. ⌜ r ≡ modeOf strict ⌝ }
+{
+    if strict {
+        return Mode::Strict;
+    }
+    Mode::Lenient
+}
+
+// Checks a bundle.
+#[no_mangle]
+pub extern "C" fn nachricht_check(bytes: &[u8], strict: bool) -> Answer
+    ensures { λ r. ⌜ r ≡ countsAnswer (counts (options (modeOf strict) max-rows) (now (bytes .entry))) ⌝ }
+{
+    match reader::check_in(bytes, mode_of(strict)) {
+        Checked::Failed(k, p) => Answer {
+            error: k.code() as u64,
+            place: p as u64,
+            side: 0,
+            count: 0,
+            entries: 0,
+            fields: 0,
+        },
+        Checked::Good(b) => Answer {
+            error: 0,
+            place: 0,
+            side: 0,
+            count: b.rows as u64,
+            entries: b.entries as u64,
+            fields: b.fields as u64,
+        },
+    }
+}
