@@ -29,11 +29,11 @@ use Rattle.reader.proofs.Flat.{ended-keyed, moved-key, moved-value}
 
 -- ---- forms
 
-form-bytes : (h : Header) → h .code ≡ 0 → 5 ≤ h .sz → formOf h ≡ content 5
+pub form-bytes : (h : Header) → h .code ≡ 0 → 5 ≤ h .sz → formOf h ≡ content 5
 unfolding formOf pick
 form-bytes h e l = rw (e, ltb-no {a = h .sz} {b = 3} (omega arith), ltb-no {a = h .sz} {b = 5} l)
 
-form-coded : (h : Header) (c : ℕ) → h .code ≡ c → 4 ≤ c → c ≤ 6 → formOf h ≡ content (c + 5)
+pub form-coded : (h : Header) (c : ℕ) → h .code ≡ c → 4 ≤ c → c ≤ 6 → formOf h ≡ content (c + 5)
 unfolding formOf pick
 form-coded h c e l u =
     rw (e, eqb-no {a = c} {b = 0} (omega arith), eqb-no {a = c} {b = 1} (omega arith), eqb-no {a = c} {b = 2} (omega arith), eqb-no {a = c} {b = 3} (omega arith), ltb-yes {a = c} {b = 7} (omega arith))

@@ -159,7 +159,7 @@ module _ {s es : List ℕ} {at names keyed next : ℕ} {h : Header} {o : Options
 
 -- ---- references
 
-form-reference : (h : Header) → h .code ≡ 7 → formOf h ≡ reference
+pub form-reference : (h : Header) → h .code ≡ 7 → formOf h ≡ reference
 unfolding formOf pick
 form-reference h e = rw e
 

@@ -8,3 +8,7 @@ pub mod Heads
 pub mod LastRule
 pub mod Turns
 pub mod Tops
+pub mod FillLaws
+pub mod RowsLeft
+pub mod After
+pub mod LocalArray

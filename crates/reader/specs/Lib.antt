@@ -2,3 +2,4 @@
 pub mod Judging
 pub mod Lanes
 pub mod Answers
+pub mod Filling
