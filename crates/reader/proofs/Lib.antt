@@ -12,3 +12,4 @@ pub mod FillLaws
 pub mod RowsLeft
 pub mod After
 pub mod LocalArray
+pub mod SecondPass

@@ -24,7 +24,7 @@ use Rattle.reader.specs.declared.item.Out.the-variants as out
 use Rattle.reader.specs.Judging.{foundIn, entriesOf, Fair, partOf, isKnown, freshOf, Entered, known, full, entered}
 use Rattle.reader.proofs.Entries.{entries-more}
 
-found-packed : (s : List ℕ) {e start side len kind : ℕ} → Packed e start side len kind → foundIn s e ≡ partOf s kind start len
+pub found-packed : (s : List ℕ) {e start side len kind : ℕ} → Packed e start side len kind → foundIn s e ≡ partOf s kind start len
 unfolding foundIn nameIn partIn
 found-packed s {e} {start} {side} {len} {kind} p =
     let c : take len (drop start (sideOf side s s)) ≡ take len (drop start s) = rw side-both in
