@@ -81,10 +81,10 @@ module _ (bytes : List ℕ) (short : length bytes ≤ max-bytes) where
       by-name n l =
           let v : packed k next (h .payload) ≡ (next * 2) * 281474976710656 + (h .payload * 2 + (k - 10)) = omega arith in
           let p : Packed (packed k next (h .payload)) next 0 (h .payload) k =
-              subst (λ (e : ℕ). Packed e next 0 (h .payload) k) (sym v) (packed-plain next (h .payload) k within (leb-true 10 k n) hi) in
+          subst (λ (e : ℕ). Packed e next 0 (h .payload) k) (sym v) (packed-plain next (h .payload) k within (leb-true 10 k n) hi) in
           let entry = packed k next (h .payload) in
           let q : E ++ (x ∷ []) ≡ entriesOf bytes (set es names entry) (names + 1) =
-              ap₂ (λ (l : List Found) (y : Found). l ++ (y ∷ [])) (t .is) (sym e ∙ sym (found-packed bytes p)) ∙ sym (entries-more bytes es names (t .size) (t .few) entry l) in
+          ap₂ (λ (l : List Found) (y : Found). l ++ (y ∷ [])) (t .is) (sym e ∙ sym (found-packed bytes p)) ∙ sym (entries-more bytes es names (t .size) (t .few) entry l) in
           (row, ap (_+_ next) exact, rw (name-is, n, ltb-yes {a = names} {b = 256} l, exact) (record { few = omega arith; size = length-set es names entry ∙ t .size; is = q }))
 
       by-content : isName (x .item) && leb max-entries (length E) ≡ false → Fills (content k)
