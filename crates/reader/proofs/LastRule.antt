@@ -1,19 +1,46 @@
 -- The last rule, the count of rows, after all others. Assumes nothing.
 use mathlib.Core.Path.{_≡_, _∙_}
 use mathlib.Core.Logic.{_≢_}
-use mathlib.Core.Bool.{Bool}
-use mathlib.Core.List.{List}
+use mathlib.Core.Bool.{true, false}
+use mathlib.Core.List.{List, _∷_}
 use Prim.Native.Nat.{ℕ, _+_, _-_, _<_, min}
 use native.Mathlib.Omega.{arith}
 use lib.ListN.{length}
 use Rattle.format.specs.Limits.{max-rows}
+use Rattle.format.specs.declared.error.Error.the-variants.{TooManyRows}
+use Rattle.format.specs.Error.{codeOf}
 use Rattle.format.specs.Answer.{Answer, good, fail}
-use Rattle.format.specs.Place.{Place}
+use Rattle.format.specs.Place.{Place, ended}
 use Rattle.format.specs.Reading.{Options, State}
 use Rattle.format.proofs.Tests.{leb-yes, leb-no, pick-yes, pick-no}
 use Rattle.reader.specs.declared.item.Out.{Out}
 use Rattle.reader.specs.declared.item.Out.the-variants as out
-use Rattle.reader.specs.Judging.{rowed, Goes, Judged, rowlessOf, Moves, HasRow, Taken, Takes}
+use Rattle.reader.specs.Judging.{Stands, spot, rowed, Goes, Judged}
+
+-- What an item comes to where there is no row for it.
+abbrev pub rowlessOf : Out → Out
+rowlessOf (out.Bad e) = out.Bad e
+rowlessOf (out.Value u) = out.Bad TooManyRows
+rowlessOf (out.Key u) = out.Bad TooManyRows
+rowlessOf (out.NewSymbol u) = out.Bad TooManyRows
+rowlessOf (out.NewKey u) = out.Bad TooManyRows
+rowlessOf (out.Container n u) = out.Bad TooManyRows
+
+-- An answer is good, with a state that offset and counts stand for, at a place, with rows left.
+pub record Taken (o : Options) (s es : List ℕ) (at names keyed rows : ℕ) (p : Place) (r : Answer State) : Type 0 where
+  pub next : State
+  pub is : r ≡ good next
+  pub stands : Stands s es at names keyed next
+  pub place : next .place ≡ p
+  pub row : length (next .found) + rows ≡ min max-rows (o .capacity)
+
+abbrev pub Takes : Options → List ℕ → List ℕ → ℕ → ℕ → State → Answer State → Out → Type 0
+Takes o s es names rows a r (out.Bad e) = r ≡ fail (codeOf e) (a .at)
+Takes o s es names rows a r (out.Value u) = Taken o s es u names 0 (rows - 1) (ended (a .place .opened) (a .place .fields)) r
+Takes o s es names rows a r (out.Key u) = Taken o s es u names 1 (rows - 1) (spot (a .place .opened) true (a .place .fields)) r
+Takes o s es names rows a r (out.NewSymbol u) = Taken o s es u (names + 1) 0 (rows - 1) (ended (a .place .opened) (a .place .fields)) r
+Takes o s es names rows a r (out.NewKey u) = Taken o s es u (names + 1) 1 (rows - 1) (spot (a .place .opened) true (a .place .fields)) r
+Takes o s es names rows a r (out.Container n u) = Taken o s es u names 0 (rows - 1) (spot (n .0 ∷ a .place .opened) false (a .place .fields)) r
 
 module _ (o : Options) (a : State) (rows : ℕ) (e : length (a .found) + rows ≡ min max-rows (o .capacity)) where
   full : rows ≡ 0 → (b : State) → rowed o a b ≡ fail 7 (a .at)
@@ -40,29 +67,9 @@ module _ (o : Options) (a : State) (rows : ℕ) (e : length (a .found) + rows �
     takes names (out.Container k u) n j = taken n j
 
     pub takes-none : (names : ℕ) (x : Out) → rows ≡ 0 → Judged o s es names a r x → Takes o s es names rows a r (rowlessOf x)
-    unfolding rowlessOf
     takes-none names (out.Bad e) z j = j
     takes-none names (out.Value u) z j = refused z j
     takes-none names (out.Key u) z j = refused z j
     takes-none names (out.NewSymbol u) z j = refused z j
     takes-none names (out.NewKey u) z j = refused z j
     takes-none names (out.Container k u) z j = refused z j
-
--- ---- what the code needs
-
-pub has-row : (rows : ℕ) (x : Out) → rows ≢ 0 → HasRow rows x
-has-row rows (out.Bad e) n = tt
-has-row rows (out.Value u) n = omega (arith, n)
-has-row rows (out.Key u) n = omega (arith, n)
-has-row rows (out.NewSymbol u) n = omega (arith, n)
-has-row rows (out.NewKey u) n = omega (arith, n)
-has-row rows (out.Container k u) n = omega (arith, n)
-
-pub rowless-moves : (strict : Bool) (s es links : List ℕ) (at names depth rows : ℕ) (x : Out) → Moves strict s es links at names depth (rowlessOf x) × HasRow rows (rowlessOf x)
-unfolding rowlessOf
-rowless-moves strict s es links at names depth rows (out.Bad e) = (tt, tt)
-rowless-moves strict s es links at names depth rows (out.Value u) = (tt, tt)
-rowless-moves strict s es links at names depth rows (out.Key u) = (tt, tt)
-rowless-moves strict s es links at names depth rows (out.NewSymbol u) = (tt, tt)
-rowless-moves strict s es links at names depth rows (out.NewKey u) = (tt, tt)
-rowless-moves strict s es links at names depth rows (out.Container k u) = (tt, tt)

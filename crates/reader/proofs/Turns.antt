@@ -1,5 +1,6 @@
 -- A turn of the loop over fields: what one item, or a container read whole, does to the run. Assumes nothing.
 use mathlib.Core.Path.{_≡_, refl, ap, sym, subst, _∙_}
+use mathlib.Core.Logic.{_≢_}
 use mathlib.Core.Bool.{Bool, true, false}
 use mathlib.Core.List.{List, [], _∷_}
 use Prim.Native.Nat.{ℕ, zero, suc, _+_, _-_, _≤_, _<_, min}
@@ -7,7 +8,7 @@ use native.Mathlib.Omega.{arith}
 use lib.Dec.{ltb, eqb}
 use lib.ListN.{length, drop}
 use Rattle.format.specs.declared.error.Error.{Error}
-use Rattle.format.specs.declared.error.Error.the-variants.{Truncated}
+use Rattle.format.specs.declared.error.Error.the-variants.{TooManyRows, Truncated}
 use Rattle.format.specs.declared.header.FieldCount.{FieldCount}
 use Rattle.format.specs.Choice.{pick, _||_}
 use Rattle.format.specs.Limits.{max-rows, max-depth}
@@ -22,16 +23,16 @@ use Rattle.reader.specs.declared.item.Out.the-variants as out
 use Rattle.reader.specs.declared.fields.Cursor.{Cursor}
 use Rattle.reader.specs.declared.fields.Step.{Step}
 use Rattle.reader.specs.declared.fields.Step.the-variants as step
-use Rattle.reader.specs.Judging.{Fair, Stands, Moved, Taken, Takes, spot}
+use Rattle.reader.specs.Judging.{Fair, Stands, Moved, Judged, spot}
 use Rattle.reader.specs.Lanes.{Lane, Leads, Resumes}
+use Rattle.reader.proofs.LastRule.{rowlessOf, Taken, Takes, takes, takes-none}
 
 abbrev pub cursor : ℕ → ℕ → ℕ → ℕ → Cursor
 cursor at names rows keyed = record { at = at; names = names; rows = rows; keyed = keyed }
 
 -- What is promised of one item, at a cursor.
 abbrev pub Promised : Options → List ℕ → List ℕ → List ℕ → Cursor → ℕ → Out → Type 0
-Promised o s es es′ t d r = (b : State) → Stands s es (t .at) (t .names) (t .keyed) b → length (b .place .opened) + d ≡ max-depth → length (b .found) + t .rows ≡ min max-rows (o .capacity)
-    → Takes o s es′ (t .names) (t .rows) b (item o b (drop (t .at) s)) r
+Promised o s es es′ t d r = (b : State) → Stands s es (t .at) (t .names) (t .keyed) b → length (b .place .opened) + d ≡ max-depth → Judged o s es′ (t .names) b (item o b (drop (t .at) s)) r
 
 -- What is promised of n fields.
 abbrev pub Resumed : Options → List ℕ → List ℕ → List ℕ → ℕ → ℕ → ℕ → ℕ → ℕ → Step → Type 0
@@ -86,36 +87,41 @@ module _ {o : Options} {s es : List ℕ} {t : Cursor} {p : Place} {a : State} (l
   abbrev from : State
   from = lead .next
 
-  taken : Takes o s es′ (t .names) (t .rows) from (item o from (drop (from .at) s)) r
-  taken =
-      let e : length (from .place .opened) + d ≡ max-depth = subst (λ (x : Place). length (x .opened) + d ≡ max-depth) (sym (lead .place)) deep in
-      subst (λ (x : ℕ). Takes o s es′ (t .names) (t .rows) from (item o from (drop x s)) r) (sym (lead .stands .offset)) (one from (lead .stands) e (lead .row))
+  abbrev this : Answer State
+  this = item o from (drop (from .at) s)
 
-  inside-bytes : from .at < length s
-  inside-bytes = omega (arith, lead .stands .offset)
+  judged : Judged o s es′ (t .names) from this r
+  judged =
+      let e : length (from .place .opened) + d ≡ max-depth = subst (λ (x : Place). length (x .opened) + d ≡ max-depth) (sym (lead .place)) deep in
+      subst (λ (x : ℕ). Judged o s es′ (t .names) from (item o from (drop x s)) r) (sym (lead .stands .offset)) (one from (lead .stands) e)
+
+  stops : (k : Error) → this ≡ fail (codeOf k) (from .at) → run o a 0 (drop (a .at) s) ≡ fail (codeOf k) (t .at)
+  unfolding fail
+  stops k j = lead .is ∙ run-failed o from s (omega (arith, lead .stands .offset)) j ∙ ap (fail (codeOf k)) (lead .stands .offset)
 
   pub turn-bad : (k : Error) → r ≡ out.Bad k → run o a 0 (drop (a .at) s) ≡ fail (codeOf k) (t .at)
-  unfolding fail
-  turn-bad k e =
-      let j : item o from (drop (from .at) s) ≡ fail (codeOf k) (from .at) = subst (λ (v : Out). Takes o s es′ (t .names) (t .rows) from (item o from (drop (from .at) s)) v) e taken in
-      lead .is ∙ run-failed o from s inside-bytes j ∙ ap (fail (codeOf k)) (lead .stands .offset)
+  turn-bad k e = stops k (subst (Judged o s es′ (t .names) from this) e judged)
 
-  leads-on : {at names keyed rows : ℕ} {q : Place} → Taken o s es′ at names keyed rows q (item o from (drop (from .at) s)) → Leads o s es′ (cursor at names rows keyed) q a
+  -- an item that is no error, and no row for it
+  pub turn-full : (x : Out) → r ≡ x → rowlessOf x ≡ out.Bad TooManyRows → t .rows ≡ 0 → run o a 0 (drop (a .at) s) ≡ fail (codeOf TooManyRows) (t .at)
+  turn-full x g e z = stops TooManyRows (subst (Takes o s es′ (t .names) (t .rows) from this) (ap rowlessOf g ∙ e) (takes-none o from (t .rows) (lead .row) s es′ this (t .names) r z judged))
+
+  leads-on : {at names keyed rows : ℕ} {q : Place} → Taken o s es′ at names keyed rows q this → Leads o s es′ (cursor at names rows keyed) q a
   leads-on g = record { next = g .next; is = lead .is ∙ run-to o from s (g .is); stands = g .stands; row = g .row; place = g .place }
 
   -- an item that goes on to a place, whatever the variant
-  pub turn-on : (at names keyed rows : ℕ) (Q : Place → Place) → Taken o s es′ at names keyed rows (Q (from .place)) (item o from (drop (from .at) s)) → Leads o s es′ (cursor at names rows keyed) (Q p) a
+  pub turn-on : (at names keyed rows : ℕ) (Q : Place → Place) → Taken o s es′ at names keyed rows (Q (from .place)) this → Leads o s es′ (cursor at names rows keyed) (Q p) a
   turn-on at names keyed rows Q g = at-place (ap Q (lead .place)) (leads-on g)
 
-  pub turn-item : (x : Out) → r ≡ x → Takes o s es′ (t .names) (t .rows) from (item o from (drop (from .at) s)) x
-  turn-item x e = subst (λ (v : Out). Takes o s es′ (t .names) (t .rows) from (item o from (drop (from .at) s)) v) e taken
+  pub turn-item : t .rows ≢ 0 → (x : Out) → r ≡ x → Takes o s es′ (t .names) (t .rows) from this x
+  turn-item n x e = takes o from (t .rows) (lead .row) s es′ this (t .names) x n (subst (Judged o s es′ (t .names) from this) e judged)
 
-  turn-held : (n : FieldCount) (u : ℕ) → r ≡ out.Container n u → Leads o s es′ (cursor u (t .names) (t .rows - 1) 0) (spot (n .0 ∷ p .opened) false (p .fields)) a
-  turn-held n u e = turn-on u (t .names) 0 (t .rows - 1) (λ (x : Place). spot (n .0 ∷ x .opened) false (x .fields)) (turn-item (out.Container n u) e)
+  turn-held : t .rows ≢ 0 → (n : FieldCount) (u : ℕ) → r ≡ out.Container n u → Leads o s es′ (cursor u (t .names) (t .rows - 1) 0) (spot (n .0 ∷ p .opened) false (p .fields)) a
+  turn-held z n u e = turn-on u (t .names) 0 (t .rows - 1) (λ (x : Place). spot (n .0 ∷ x .opened) false (x .fields)) (turn-item z (out.Container n u) e)
 
-  module _ (n : FieldCount) (u : ℕ) (e : r ≡ out.Container n u) (pos : 0 < d) (some : 0 < n .0) (es″ : List ℕ) (q : Step) (all : Resumed o s es′ es″ u (t .names) (t .rows - 1) (d - 1) (n .0) q) where
+  module _ (z : t .rows ≢ 0) (n : FieldCount) (u : ℕ) (e : r ≡ out.Container n u) (pos : 0 < d) (some : 0 < n .0) (es″ : List ℕ) (q : Step) (all : Resumed o s es′ es″ u (t .names) (t .rows - 1) (d - 1) (n .0) q) where
     abbrev held : Leads o s es′ (cursor u (t .names) (t .rows - 1) 0) (spot (n .0 ∷ p .opened) false (p .fields)) a
-    held = turn-held n u e
+    held = turn-held z n u e
 
     resumed : Resumes o s es″ (inside (p .opened) (p .fields)) (held .next) q
     resumed =
@@ -152,28 +158,31 @@ module _ {o : Options} {s es : List ℕ} {t : Cursor} {a : State} (Q : ℕ → B
   pub field-bad : (k : Error) → r ≡ out.Bad k → run o a 0 (drop (a .at) s) ≡ fail (codeOf k) (t .at)
   field-bad k e = turn-bad lead here es′ d deep r one k e
 
-  pub field-value : (u : ℕ) → r ≡ out.Value u → Leads o s es′ (cursor u (t .names) (t .rows - 1) 0) (Q (left - 1) false) a
-  field-value u e = at-place less (turn-on lead here es′ d deep r one u (t .names) 0 (t .rows - 1) (λ (x : Place). ended (x .opened) (x .fields)) (turn-item lead here es′ d deep r one (out.Value u) e))
+  pub field-full : (x : Out) → r ≡ x → rowlessOf x ≡ out.Bad TooManyRows → t .rows ≡ 0 → run o a 0 (drop (a .at) s) ≡ fail (codeOf TooManyRows) (t .at)
+  field-full x g e z = turn-full lead here es′ d deep r one x g e z
 
-  pub field-symbol : (u : ℕ) → r ≡ out.NewSymbol u → Leads o s es′ (cursor u (t .names + 1) (t .rows - 1) 0) (Q (left - 1) false) a
-  field-symbol u e = at-place less (turn-on lead here es′ d deep r one u (t .names + 1) 0 (t .rows - 1) (λ (x : Place). ended (x .opened) (x .fields)) (turn-item lead here es′ d deep r one (out.NewSymbol u) e))
+  pub field-value : t .rows ≢ 0 → (u : ℕ) → r ≡ out.Value u → Leads o s es′ (cursor u (t .names) (t .rows - 1) 0) (Q (left - 1) false) a
+  field-value z u e = at-place less (turn-on lead here es′ d deep r one u (t .names) 0 (t .rows - 1) (λ (x : Place). ended (x .opened) (x .fields)) (turn-item lead here es′ d deep r one z (out.Value u) e))
 
-  pub field-key : (u : ℕ) → r ≡ out.Key u → Leads o s es′ (cursor u (t .names) (t .rows - 1) 1) (Q left true) a
-  field-key u e = at-place (lane .key left (eqb (t .keyed) 1) pos most) (turn-on lead here es′ d deep r one u (t .names) 1 (t .rows - 1) (λ (x : Place). spot (x .opened) true (x .fields)) (turn-item lead here es′ d deep r one (out.Key u) e))
+  pub field-symbol : t .rows ≢ 0 → (u : ℕ) → r ≡ out.NewSymbol u → Leads o s es′ (cursor u (t .names + 1) (t .rows - 1) 0) (Q (left - 1) false) a
+  field-symbol z u e = at-place less (turn-on lead here es′ d deep r one u (t .names + 1) 0 (t .rows - 1) (λ (x : Place). ended (x .opened) (x .fields)) (turn-item lead here es′ d deep r one z (out.NewSymbol u) e))
 
-  pub field-new-key : (u : ℕ) → r ≡ out.NewKey u → Leads o s es′ (cursor u (t .names + 1) (t .rows - 1) 1) (Q left true) a
-  field-new-key u e = at-place (lane .key left (eqb (t .keyed) 1) pos most) (turn-on lead here es′ d deep r one u (t .names + 1) 1 (t .rows - 1) (λ (x : Place). spot (x .opened) true (x .fields)) (turn-item lead here es′ d deep r one (out.NewKey u) e))
+  pub field-key : t .rows ≢ 0 → (u : ℕ) → r ≡ out.Key u → Leads o s es′ (cursor u (t .names) (t .rows - 1) 1) (Q left true) a
+  field-key z u e = at-place (lane .key left (eqb (t .keyed) 1) pos most) (turn-on lead here es′ d deep r one u (t .names) 1 (t .rows - 1) (λ (x : Place). spot (x .opened) true (x .fields)) (turn-item lead here es′ d deep r one z (out.Key u) e))
 
-  module _ (c : FieldCount) (u : ℕ) (e : r ≡ out.Container c u) (room : 0 < d) (some : 0 < c .0) (es″ : List ℕ) (q : Step) (all : Resumed o s es′ es″ u (t .names) (t .rows - 1) (d - 1) (c .0) q) where
+  pub field-new-key : t .rows ≢ 0 → (u : ℕ) → r ≡ out.NewKey u → Leads o s es′ (cursor u (t .names + 1) (t .rows - 1) 1) (Q left true) a
+  field-new-key z u e = at-place (lane .key left (eqb (t .keyed) 1) pos most) (turn-on lead here es′ d deep r one u (t .names + 1) 1 (t .rows - 1) (λ (x : Place). spot (x .opened) true (x .fields)) (turn-item lead here es′ d deep r one z (out.NewKey u) e))
+
+  module _ (z : t .rows ≢ 0) (c : FieldCount) (u : ℕ) (e : r ≡ out.Container c u) (room : 0 < d) (some : 0 < c .0) (es″ : List ℕ) (q : Step) (all : Resumed o s es′ es″ u (t .names) (t .rows - 1) (d - 1) (c .0) q) where
     pub field-held-bad : (k : Error) (b : ℕ) → q ≡ step.Bad k b → run o a 0 (drop (a .at) s) ≡ fail (codeOf k) b
-    field-held-bad k b g = held-bad lead here es′ d deep r one c u e room some es″ q all k b g
+    field-held-bad k b g = held-bad lead here es′ d deep r one z c u e room some es″ q all k b g
 
     pub field-held-end : (l : ℕ) (v : Cursor) → q ≡ step.End l v → 0 < l → length s ≤ v .at → run o a 0 (drop (a .at) s) ≡ fail (codeOf Truncated) (v .at)
-    field-held-end l v g z w = held-end lead here es′ d deep r one c u e room some es″ q all l v g z w
+    field-held-end l v g p w = held-end lead here es′ d deep r one z c u e room some es″ q all l v g p w
 
     pub field-held-good : (v : Cursor) → q ≡ step.Good v → v .keyed ≡ 0 → Leads o s es″ (cursor (v .at) (v .names) (v .rows) 0) (Q (left - 1) false) a
     field-held-good v g k =
-        let l = at-place less (held-good lead here es′ d deep r one c u e room some es″ q all v g) in
+        let l = at-place less (held-good lead here es′ d deep r one z c u e room some es″ q all v g) in
         subst (λ (n : ℕ). Leads o s es″ (cursor (v .at) (v .names) (v .rows) n) (Q (left - 1) false) a) k l
 
 pub start-field : {o : Options} {s es : List ℕ} {at names rows : ℕ} (Q : ℕ → Bool → Place) (n : ℕ) (a : State) → Stands s es at names 0 a → length (a .found) + rows ≡ min max-rows (o .capacity) → a .place ≡ Q n false

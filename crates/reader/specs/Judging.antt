@@ -83,41 +83,6 @@ Judged o s es names a r (out.NewSymbol u) = Goes o s es u (names + 1) 0 (ended (
 Judged o s es names a r (out.NewKey u) = Goes o s es u (names + 1) 1 (spot (a .place .opened) true (a .place .fields)) a r
 Judged o s es names a r (out.Container n u) = Goes o s es u names 0 (spot (n .0 ∷ a .place .opened) false (a .place .fields)) a r
 
--- ---- the last rule
-
-unfoldable pub rowlessOf : Out → Out
-rowlessOf (out.Bad e) = out.Bad e
-rowlessOf (out.Value u) = out.Bad TooManyRows
-rowlessOf (out.Key u) = out.Bad TooManyRows
-rowlessOf (out.NewSymbol u) = out.Bad TooManyRows
-rowlessOf (out.NewKey u) = out.Bad TooManyRows
-rowlessOf (out.Container n u) = out.Bad TooManyRows
-
--- Of rows that are left, an item that is no error takes one.
-abbrev pub HasRow : ℕ → Out → Type 0
-HasRow rows (out.Bad e) = Unit
-HasRow rows (out.Value u) = 0 < rows
-HasRow rows (out.Key u) = 0 < rows
-HasRow rows (out.NewSymbol u) = 0 < rows
-HasRow rows (out.NewKey u) = 0 < rows
-HasRow rows (out.Container n u) = 0 < rows
-
--- An answer is good, with a state that offset and counts stand for, at a place, with rows left.
-pub record Taken (o : Options) (s es : List ℕ) (at names keyed rows : ℕ) (p : Place) (r : Answer State) : Type 0 where
-  pub next : State
-  pub is : r ≡ good next
-  pub stands : Stands s es at names keyed next
-  pub place : next .place ≡ p
-  pub row : length (next .found) + rows ≡ min max-rows (o .capacity)
-
-abbrev pub Takes : Options → List ℕ → List ℕ → ℕ → ℕ → State → Answer State → Out → Type 0
-Takes o s es names rows a r (out.Bad e) = r ≡ fail (codeOf e) (a .at)
-Takes o s es names rows a r (out.Value u) = Taken o s es u names 0 (rows - 1) (ended (a .place .opened) (a .place .fields)) r
-Takes o s es names rows a r (out.Key u) = Taken o s es u names 1 (rows - 1) (spot (a .place .opened) true (a .place .fields)) r
-Takes o s es names rows a r (out.NewSymbol u) = Taken o s es u (names + 1) 0 (rows - 1) (ended (a .place .opened) (a .place .fields)) r
-Takes o s es names rows a r (out.NewKey u) = Taken o s es u (names + 1) 1 (rows - 1) (spot (a .place .opened) true (a .place .fields)) r
-Takes o s es names rows a r (out.Container n u) = Taken o s es u names 0 (rows - 1) (spot (n .0 ∷ a .place .opened) false (a .place .fields)) r
-
 -- ---- headers
 
 -- A header at an offset that passed the first rule, and the offset after it.

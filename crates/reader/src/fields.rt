@@ -63,22 +63,31 @@ pub fn fields(
                 },
             );
         }
-        match crate::item::next(s, strict, depth, at, names, rows, keyed, entries, links) {
+        match crate::item::one(s, strict, depth, at, names, keyed, entries, links) {
             Out::Bad(k) => {
                 return Step::Bad(k, at);
             }
             Out::Value(u) => {
+                if rows == 0 {
+                    return Step::Bad(Error::TooManyRows, at);
+                }
                 at = u;
                 rows -= 1;
                 keyed = 0;
                 left -= 1;
             }
             Out::Key(u) => {
+                if rows == 0 {
+                    return Step::Bad(Error::TooManyRows, at);
+                }
                 at = u;
                 rows -= 1;
                 keyed = 1;
             }
             Out::NewSymbol(u) => {
+                if rows == 0 {
+                    return Step::Bad(Error::TooManyRows, at);
+                }
                 at = u;
                 names += 1;
                 rows -= 1;
@@ -86,36 +95,34 @@ pub fn fields(
                 left -= 1;
             }
             Out::NewKey(u) => {
+                if rows == 0 {
+                    return Step::Bad(Error::TooManyRows, at);
+                }
                 at = u;
                 names += 1;
                 rows -= 1;
                 keyed = 1;
             }
-            Out::Container(n, u) => match fields(
-                s,
-                strict,
-                depth - 1,
-                n,
-                u,
-                names,
-                rows - 1,
-                entries,
-                links,
-            ) {
-                Step::Bad(k, p) => {
-                    return Step::Bad(k, p);
+            Out::Container(n, u) => {
+                if rows == 0 {
+                    return Step::Bad(Error::TooManyRows, at);
                 }
-                Step::End(_, v) => {
-                    return Step::Bad(Error::Truncated, v.at);
+                match fields(s, strict, depth - 1, n, u, names, rows - 1, entries, links) {
+                    Step::Bad(k, p) => {
+                        return Step::Bad(k, p);
+                    }
+                    Step::End(_, v) => {
+                        return Step::Bad(Error::Truncated, v.at);
+                    }
+                    Step::Good(v) => {
+                        at = v.at;
+                        names = v.names;
+                        rows = v.rows;
+                        keyed = 0;
+                        left -= 1;
+                    }
                 }
-                Step::Good(v) => {
-                    at = v.at;
-                    names = v.names;
-                    rows = v.rows;
-                    keyed = 0;
-                    left -= 1;
-                }
-            },
+            }
         }
     }
     Step::Good(Cursor {

@@ -3,16 +3,15 @@ ghost use mathlib.Core.Path.{_≡_};
 ghost use mathlib.Core.Bool.{Bool, true, false, not};
 ghost use mathlib.Core.List.{List};
 ghost use mathlib.Core.Option.{some, none};
-ghost use Prim.Native.Nat.{ℕ, _+_, _-_, _≤_, _<_, min};
+ghost use Prim.Native.Nat.{ℕ, _+_, _-_, _≤_, _<_};
 ghost use lib.Dec.{eqb, leb};
 ghost use lib.ListN.{length, take, drop};
 ghost use Rattle.format.specs.Choice.{_&&_, _||_};
 ghost use Rattle.format.specs.Header.{headerOf, isLong, isNegativeAlias};
-ghost use Rattle.format.specs.Limits.{max-rows};
 ghost use Rattle.format.specs.Utf8.{utf8};
 ghost use Rattle.format.specs.Reading.{Options, State, headed, item};
 ghost use Rattle.symbols.specs.Chains.{Chained};
-ghost use Rattle.reader.specs.Judging.{Fair, Moved, Moves, Stands, Judged, Case, Body, Name, freshOf, Entered, rowlessOf, HasRow, Takes};
+ghost use Rattle.reader.specs.Judging.{Fair, Moved, Moves, Stands, Judged, Case, Body, Name, freshOf, Entered};
 use format::ByteLength;
 use format::Error;
 use format::FieldCount;
@@ -287,7 +286,7 @@ fn judge(
 }
 
 // One item at an offset, by all rules but the last, the count of rows.
-fn one(
+pub fn one(
     s: &[u8],
     strict: bool,
     depth: usize,
@@ -306,42 +305,4 @@ fn one(
         Head::Cut => Out::Bad(Error::Truncated),
         Head::Whole(h) => judge(s, strict, depth, h, at, names, keyed, entries, links),
     }
-}
-
-// An item for which there is no row: its own error, or that of the last rule.
-fn rowless(item: Out) -> Out
-    ensures { λ r. ⌜ r ≡ rowlessOf item ⌝ }
-{
-    match item {
-        Out::Bad(k) => Out::Bad(k),
-        Out::Value(_) => Out::Bad(Error::TooManyRows),
-        Out::Key(_) => Out::Bad(Error::TooManyRows),
-        Out::NewSymbol(_) => Out::Bad(Error::TooManyRows),
-        Out::NewKey(_) => Out::Bad(Error::TooManyRows),
-        Out::Container(_, _) => Out::Bad(Error::TooManyRows),
-    }
-}
-
-// One item, by all rules.
-pub fn next(
-    s: &[u8],
-    strict: bool,
-    depth: usize,
-    at: usize,
-    names: usize,
-    rows: usize,
-    keyed: usize,
-    entries: &mut [u64; SymbolTable::MAX_ENTRIES],
-    links: &mut [u16; 512],
-) -> Out
-    requires { ⌜ (at ≤ length (now s)) × (length (now s) ≤ 16384) × Fair strict (now s) (now entries) (now links) names ⌝ }
-    ensures moves { λ r. ⌜ Moves strict (now (s .entry)) (now (entries .exit)) (now (links .exit)) at names depth r × HasRow rows r ⌝ }
-    ensures takes { λ r. ⌜ ((o : Options) (a : State) → o .strict ≡ strict → Stands (now (s .entry)) (now (entries .entry)) at names keyed a → length (a .place .opened) + depth ≡ 32
-        → length (a .found) + rows ≡ min max-rows (o .capacity) → Takes o (now (s .entry)) (now (entries .exit)) names rows a (item o a (drop at (now (s .entry)))) r) ⌝ }
-{
-    let item = one(s, strict, depth, at, names, keyed, entries, links);
-    if rows == 0 {
-        return rowless(item);
-    }
-    item
 }

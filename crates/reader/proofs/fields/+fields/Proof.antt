@@ -10,14 +10,14 @@ use Rattle.format.specs.Place.{Place}
 use Rattle.format.specs.Reading.{Options, State}
 use Rattle.reader.specs.Judging.{Stands}
 use Rattle.reader.specs.Lanes.{Lane, Leads}
-use Rattle.reader.proofs.Turns.{cursor, Along, at-place, start-field, field-bad, field-value, field-symbol, field-key, field-new-key, field-held-bad, field-held-end, field-held-good, along-value, along-key, along-held}
+use Rattle.reader.proofs.Turns.{cursor, Along, at-place, start-field, field-bad, field-full, field-value, field-symbol, field-key, field-new-key, field-held-bad, field-held-end, field-held-good, along-value, along-key, along-held}
 use Prim.Native.Nat.{ℕ, _<_}
 use borrow.Fn.Kinds.{In}
 use borrow.Fn.PlainCycle.{Measures, is, falls, and}
 use Rattle.reader.proofs.fields.fields.Reads as fields
 use Rattle.reader.proofs.fields.fields.Kinds as fields-kinds
 use Rattle.reader.proofs.fields.+fields.Lts-fields as fields-lts
-use Rattle.reader.proofs.item.next.Reads as next-reads
+use Rattle.reader.proofs.item.one.Reads as one-reads
 use Rattle.reader.proofs.fields.+fields.{statement}
 use Rattle.reader.proofs.fields.+fields.Tie.{close as done}
 
@@ -41,8 +41,8 @@ fields-μ-loop s strict depth from known free entries₀ links₀ at₀ names₀
 
 -- src/fields.rt:54:5
 fields-loop-holds : (t : ℕ) → fields-lts.Need-loop-holds (
-  next-reads.Asked,
-  next-reads.Learnt,
+  one-reads.Asked,
+  one-reads.Learnt,
   fields-below t,
   fields.Post,
 ) (fields-at t) fields.Post fields-Inv-loop fields-μ-loop
@@ -50,26 +50,26 @@ fields-loop-holds t c = (record { fair = c .before .pre .1 .2; within = c .befor
 
 -- src/fields.rt:56:13
 fields-returns : (t : ℕ) → fields-lts.Need-returns (
-  next-reads.Asked,
-  next-reads.Learnt,
+  one-reads.Asked,
+  one-reads.Learnt,
   fields-below t,
   fields.Post,
 ) (fields-at t) fields.Post fields-Inv-loop fields-μ-loop
 fields-returns t c = ((c .before .before .loop .inv .0 .fair, c .if1 .taken, c .before .loop-test .taken, c .before .before .loop .inv .0 .most), λ Q o a so l h f e. c .before .before .loop .inv .1 Q o a so l h f e)
 
 -- src/fields.rt:66:15
-fields-next-requires : (t : ℕ) → fields-lts.Need-next-requires (
-  next-reads.Asked,
-  next-reads.Learnt,
+fields-one-requires : (t : ℕ) → fields-lts.Need-one-requires (
+  one-reads.Asked,
+  one-reads.Learnt,
   fields-below t,
   fields.Post,
 ) (fields-at t) fields.Post fields-Inv-loop fields-μ-loop
-fields-next-requires t c κs = (c .before .before .before .before .loop .inv .0 .within, c .before .before .before .before .before .before .pre .1 .1, c .before .before .before .before .loop .inv .0 .fair)
+fields-one-requires t c κs = (c .before .before .before .before .loop .inv .0 .within, c .before .before .before .before .before .before .pre .1 .1, c .before .before .before .before .loop .inv .0 .fair)
 
 -- src/fields.rt:67:22
 fields-enum-known-k : (t : ℕ) → fields-lts.Need-enum-known-k (
-  next-reads.Asked,
-  next-reads.Learnt,
+  one-reads.Asked,
+  one-reads.Learnt,
   fields-below t,
   fields.Post,
 ) (fields-at t) fields.Post fields-Inv-loop fields-μ-loop
@@ -77,35 +77,44 @@ fields-enum-known-k t c = search needs
 
 -- src/fields.rt:68:17
 fields-returns-2 : (t : ℕ) → fields-lts.Need-returns-2 (
-  next-reads.Asked,
-  next-reads.Learnt,
+  one-reads.Asked,
+  one-reads.Learnt,
   fields-below t,
   fields.Post,
 ) (fields-at t) fields.Post fields-Inv-loop fields-μ-loop
-fields-returns-2 t c = (tt, λ Q o a so l h f e. field-bad Q _ _ (c .before .before .before .before .before .before .before .before .loop .left) l (c .before .before .before .before .before .before .before .loop-test .taken) (c .before .before .before .before .before .before .before .before .loop .inv .0 .most) (c .before .before .before .before .before .before .before .before .loop .inv .1 Q o a so l h f e) (c .before .before .before .before .before .before .if1 .left) _ _ (λ b. c .before .before .before .next .ensures .1 o b so) _ (c .before .k .given .1))
+fields-returns-2 t c = (tt, λ Q o a so l h f e. field-bad Q _ _ (c .before .before .before .before .before .before .before .before .loop .left) l (c .before .before .before .before .before .before .before .loop-test .taken) (c .before .before .before .before .before .before .before .before .loop .inv .0 .most) (c .before .before .before .before .before .before .before .before .loop .inv .1 Q o a so l h f e) (c .before .before .before .before .before .before .if1 .left) _ _ (λ b. c .before .before .before .one .ensures .1 o b so) _ (c .before .k .given .1))
 
 -- src/fields.rt:70:24
 fields-enum-known-u : (t : ℕ) → fields-lts.Need-enum-known-u (
-  next-reads.Asked,
-  next-reads.Learnt,
+  one-reads.Asked,
+  one-reads.Learnt,
   fields-below t,
   fields.Post,
 ) (fields-at t) fields.Post fields-Inv-loop fields-μ-loop
 fields-enum-known-u t c = search needs
 
--- src/fields.rt:72:17
-fields-sub-rows : (t : ℕ) → fields-lts.Need-sub-rows (
-  next-reads.Asked,
-  next-reads.Learnt,
+-- src/fields.rt:72:21
+fields-returns-3 : (t : ℕ) → fields-lts.Need-returns-3 (
+  one-reads.Asked,
+  one-reads.Learnt,
   fields-below t,
   fields.Post,
 ) (fields-at t) fields.Post fields-Inv-loop fields-μ-loop
-fields-sub-rows t c = let g = rw (c .before .u .given .1) at (c .before .before .before .next .ensures .0 .1) in omega arith
+fields-returns-3 t c = (tt, λ Q o a so l h f e. field-full Q _ _ (c .before .before .before .before .before .before .before .before .before .loop .left) l (c .before .before .before .before .before .before .before .before .loop-test .taken) (c .before .before .before .before .before .before .before .before .before .loop .inv .0 .most) (c .before .before .before .before .before .before .before .before .before .loop .inv .1 Q o a so l h f e) (c .before .before .before .before .before .before .before .if1 .left) _ _ (λ b. c .before .before .before .before .one .ensures .1 o b so) _ (c .before .before .u .given .1) refl (c .if2 .taken))
 
--- src/fields.rt:74:17
+-- src/fields.rt:75:17
+fields-sub-rows : (t : ℕ) → fields-lts.Need-sub-rows (
+  one-reads.Asked,
+  one-reads.Learnt,
+  fields-below t,
+  fields.Post,
+) (fields-at t) fields.Post fields-Inv-loop fields-μ-loop
+fields-sub-rows t c = omega (arith, c .if2 .left)
+
+-- src/fields.rt:77:17
 fields-sub-left : (t : ℕ) → fields-lts.Need-sub-left (
-  next-reads.Asked,
-  next-reads.Learnt,
+  one-reads.Asked,
+  one-reads.Learnt,
   fields-below t,
   fields.Post,
 ) (fields-at t) fields.Post fields-Inv-loop fields-μ-loop
@@ -113,89 +122,107 @@ fields-sub-left t c = search needs
 
 -- src/fields.rt:54:5
 fields-loop-less : (t : ℕ) → fields-lts.Need-loop-less (
-  next-reads.Asked,
-  next-reads.Learnt,
+  one-reads.Asked,
+  one-reads.Learnt,
   fields-below t,
   fields.Post,
 ) (fields-at t) fields.Post fields-Inv-loop fields-μ-loop
-fields-loop-less t c = let g = rw (c .before .u .given .1) at (c .before .before .before .next .ensures .0 .0) in omega (arith, g .on, g .within)
+fields-loop-less t c = let g = rw (c .before .before .u .given .1) at (c .before .before .before .before .one .ensures .0) in omega (arith, g .on, g .within)
 
 -- src/fields.rt:54:5
 fields-loop-again : (t : ℕ) → fields-lts.Need-loop-again (
-  next-reads.Asked,
-  next-reads.Learnt,
+  one-reads.Asked,
+  one-reads.Learnt,
   fields-below t,
   fields.Post,
 ) (fields-at t) fields.Post fields-Inv-loop fields-μ-loop
-fields-loop-again t c = let g = rw (c .before .u .given .1) at (c .before .before .before .next .ensures .0 .0) in (along-value (c .before .before .before .before .before .before .before .before .loop .inv .0) (c .before .before .before .before .before .before .before .loop-test .taken) g, λ Q o a so l h f e. field-value Q _ _ (c .before .before .before .before .before .before .before .before .loop .left) l (c .before .before .before .before .before .before .before .loop-test .taken) (c .before .before .before .before .before .before .before .before .loop .inv .0 .most) (c .before .before .before .before .before .before .before .before .loop .inv .1 Q o a so l h f e) (c .before .before .before .before .before .before .if1 .left) _ _ (λ b. c .before .before .before .next .ensures .1 o b so) _ (c .before .u .given .1))
+fields-loop-again t c = let g = rw (c .before .before .u .given .1) at (c .before .before .before .before .one .ensures .0) in (along-value (c .before .before .before .before .before .before .before .before .before .loop .inv .0) (c .before .before .before .before .before .before .before .before .loop-test .taken) g, λ Q o a so l h f e. field-value Q _ _ (c .before .before .before .before .before .before .before .before .before .loop .left) l (c .before .before .before .before .before .before .before .before .loop-test .taken) (c .before .before .before .before .before .before .before .before .before .loop .inv .0 .most) (c .before .before .before .before .before .before .before .before .before .loop .inv .1 Q o a so l h f e) (c .before .before .before .before .before .before .before .if1 .left) _ _ (λ b. c .before .before .before .before .one .ensures .1 o b so) (c .if2 .left) _ (c .before .before .u .given .1))
 
--- src/fields.rt:76:22
+-- src/fields.rt:79:22
 fields-enum-known-u-2 : (t : ℕ) → fields-lts.Need-enum-known-u-2 (
-  next-reads.Asked,
-  next-reads.Learnt,
+  one-reads.Asked,
+  one-reads.Learnt,
   fields-below t,
   fields.Post,
 ) (fields-at t) fields.Post fields-Inv-loop fields-μ-loop
 fields-enum-known-u-2 t c = search needs
 
--- src/fields.rt:78:17
-fields-sub-rows-2 : (t : ℕ) → fields-lts.Need-sub-rows-2 (
-  next-reads.Asked,
-  next-reads.Learnt,
+-- src/fields.rt:81:21
+fields-returns-4 : (t : ℕ) → fields-lts.Need-returns-4 (
+  one-reads.Asked,
+  one-reads.Learnt,
   fields-below t,
   fields.Post,
 ) (fields-at t) fields.Post fields-Inv-loop fields-μ-loop
-fields-sub-rows-2 t c = let g = rw (c .before .u2 .given .1) at (c .before .before .before .next .ensures .0 .1) in omega arith
+fields-returns-4 t c = (tt, λ Q o a so l h f e. field-full Q _ _ (c .before .before .before .before .before .before .before .before .before .loop .left) l (c .before .before .before .before .before .before .before .before .loop-test .taken) (c .before .before .before .before .before .before .before .before .before .loop .inv .0 .most) (c .before .before .before .before .before .before .before .before .before .loop .inv .1 Q o a so l h f e) (c .before .before .before .before .before .before .before .if1 .left) _ _ (λ b. c .before .before .before .before .one .ensures .1 o b so) _ (c .before .before .u2 .given .1) refl (c .if3 .taken))
+
+-- src/fields.rt:84:17
+fields-sub-rows-2 : (t : ℕ) → fields-lts.Need-sub-rows-2 (
+  one-reads.Asked,
+  one-reads.Learnt,
+  fields-below t,
+  fields.Post,
+) (fields-at t) fields.Post fields-Inv-loop fields-μ-loop
+fields-sub-rows-2 t c = omega (arith, c .if3 .left)
 
 -- src/fields.rt:54:5
 fields-loop-less-2 : (t : ℕ) → fields-lts.Need-loop-less-2 (
-  next-reads.Asked,
-  next-reads.Learnt,
+  one-reads.Asked,
+  one-reads.Learnt,
   fields-below t,
   fields.Post,
 ) (fields-at t) fields.Post fields-Inv-loop fields-μ-loop
-fields-loop-less-2 t c = let g = rw (c .before .u2 .given .1) at (c .before .before .before .next .ensures .0 .0) in omega (arith, g .on, g .within)
+fields-loop-less-2 t c = let g = rw (c .before .before .u2 .given .1) at (c .before .before .before .before .one .ensures .0) in omega (arith, g .on, g .within)
 
 -- src/fields.rt:54:5
 fields-loop-again-2 : (t : ℕ) → fields-lts.Need-loop-again-2 (
-  next-reads.Asked,
-  next-reads.Learnt,
+  one-reads.Asked,
+  one-reads.Learnt,
   fields-below t,
   fields.Post,
 ) (fields-at t) fields.Post fields-Inv-loop fields-μ-loop
-fields-loop-again-2 t c = let g = rw (c .before .u2 .given .1) at (c .before .before .before .next .ensures .0 .0) in (along-key (c .before .before .before .before .before .before .before .before .loop .inv .0) (c .before .before .before .before .before .before .before .loop-test .taken) g, λ Q o a so l h f e. field-key Q _ _ (c .before .before .before .before .before .before .before .before .loop .left) l (c .before .before .before .before .before .before .before .loop-test .taken) (c .before .before .before .before .before .before .before .before .loop .inv .0 .most) (c .before .before .before .before .before .before .before .before .loop .inv .1 Q o a so l h f e) (c .before .before .before .before .before .before .if1 .left) _ _ (λ b. c .before .before .before .next .ensures .1 o b so) _ (c .before .u2 .given .1))
+fields-loop-again-2 t c = let g = rw (c .before .before .u2 .given .1) at (c .before .before .before .before .one .ensures .0) in (along-key (c .before .before .before .before .before .before .before .before .before .loop .inv .0) (c .before .before .before .before .before .before .before .before .loop-test .taken) g, λ Q o a so l h f e. field-key Q _ _ (c .before .before .before .before .before .before .before .before .before .loop .left) l (c .before .before .before .before .before .before .before .before .loop-test .taken) (c .before .before .before .before .before .before .before .before .before .loop .inv .0 .most) (c .before .before .before .before .before .before .before .before .before .loop .inv .1 Q o a so l h f e) (c .before .before .before .before .before .before .before .if1 .left) _ _ (λ b. c .before .before .before .before .one .ensures .1 o b so) (c .if3 .left) _ (c .before .before .u2 .given .1))
 
--- src/fields.rt:81:28
+-- src/fields.rt:87:28
 fields-enum-known-u-3 : (t : ℕ) → fields-lts.Need-enum-known-u-3 (
-  next-reads.Asked,
-  next-reads.Learnt,
+  one-reads.Asked,
+  one-reads.Learnt,
   fields-below t,
   fields.Post,
 ) (fields-at t) fields.Post fields-Inv-loop fields-μ-loop
 fields-enum-known-u-3 t c = search needs
 
--- src/fields.rt:83:17
+-- src/fields.rt:89:21
+fields-returns-5 : (t : ℕ) → fields-lts.Need-returns-5 (
+  one-reads.Asked,
+  one-reads.Learnt,
+  fields-below t,
+  fields.Post,
+) (fields-at t) fields.Post fields-Inv-loop fields-μ-loop
+fields-returns-5 t c = (tt, λ Q o a so l h f e. field-full Q _ _ (c .before .before .before .before .before .before .before .before .before .loop .left) l (c .before .before .before .before .before .before .before .before .loop-test .taken) (c .before .before .before .before .before .before .before .before .before .loop .inv .0 .most) (c .before .before .before .before .before .before .before .before .before .loop .inv .1 Q o a so l h f e) (c .before .before .before .before .before .before .before .if1 .left) _ _ (λ b. c .before .before .before .before .one .ensures .1 o b so) _ (c .before .before .u3 .given .1) refl (c .if4 .taken))
+
+-- src/fields.rt:92:17
 fields-add-names : (t : ℕ) → fields-lts.Need-add-names (
-  next-reads.Asked,
-  next-reads.Learnt,
+  one-reads.Asked,
+  one-reads.Learnt,
   fields-below t,
   fields.Post,
 ) (fields-at t) fields.Post fields-Inv-loop fields-μ-loop
-fields-add-names t c = let g = rw (c .before .u3 .given .1) at (c .before .before .before .next .ensures .0 .0) in omega (arith, g .fair .few)
+fields-add-names t c = let g = rw (c .before .before .u3 .given .1) at (c .before .before .before .before .one .ensures .0) in omega (arith, g .fair .few)
 
--- src/fields.rt:84:17
+-- src/fields.rt:93:17
 fields-sub-rows-3 : (t : ℕ) → fields-lts.Need-sub-rows-3 (
-  next-reads.Asked,
-  next-reads.Learnt,
+  one-reads.Asked,
+  one-reads.Learnt,
   fields-below t,
   fields.Post,
 ) (fields-at t) fields.Post fields-Inv-loop fields-μ-loop
-fields-sub-rows-3 t c = let g = rw (c .before .u3 .given .1) at (c .before .before .before .next .ensures .0 .1) in omega arith
+fields-sub-rows-3 t c = omega (arith, c .if4 .left)
 
--- src/fields.rt:86:17
+-- src/fields.rt:95:17
 fields-sub-left-2 : (t : ℕ) → fields-lts.Need-sub-left-2 (
-  next-reads.Asked,
-  next-reads.Learnt,
+  one-reads.Asked,
+  one-reads.Learnt,
   fields-below t,
   fields.Post,
 ) (fields-at t) fields.Post fields-Inv-loop fields-μ-loop
@@ -203,152 +230,170 @@ fields-sub-left-2 t c = search needs
 
 -- src/fields.rt:54:5
 fields-loop-less-3 : (t : ℕ) → fields-lts.Need-loop-less-3 (
-  next-reads.Asked,
-  next-reads.Learnt,
+  one-reads.Asked,
+  one-reads.Learnt,
   fields-below t,
   fields.Post,
 ) (fields-at t) fields.Post fields-Inv-loop fields-μ-loop
-fields-loop-less-3 t c = let g = rw (c .before .u3 .given .1) at (c .before .before .before .next .ensures .0 .0) in omega (arith, g .on, g .within)
+fields-loop-less-3 t c = let g = rw (c .before .before .u3 .given .1) at (c .before .before .before .before .one .ensures .0) in omega (arith, g .on, g .within)
 
 -- src/fields.rt:54:5
 fields-loop-again-3 : (t : ℕ) → fields-lts.Need-loop-again-3 (
-  next-reads.Asked,
-  next-reads.Learnt,
+  one-reads.Asked,
+  one-reads.Learnt,
   fields-below t,
   fields.Post,
 ) (fields-at t) fields.Post fields-Inv-loop fields-μ-loop
-fields-loop-again-3 t c = let g = rw (c .before .u3 .given .1) at (c .before .before .before .next .ensures .0 .0) in (along-value (c .before .before .before .before .before .before .before .before .loop .inv .0) (c .before .before .before .before .before .before .before .loop-test .taken) g, λ Q o a so l h f e. field-symbol Q _ _ (c .before .before .before .before .before .before .before .before .loop .left) l (c .before .before .before .before .before .before .before .loop-test .taken) (c .before .before .before .before .before .before .before .before .loop .inv .0 .most) (c .before .before .before .before .before .before .before .before .loop .inv .1 Q o a so l h f e) (c .before .before .before .before .before .before .if1 .left) _ _ (λ b. c .before .before .before .next .ensures .1 o b so) _ (c .before .u3 .given .1))
+fields-loop-again-3 t c = let g = rw (c .before .before .u3 .given .1) at (c .before .before .before .before .one .ensures .0) in (along-value (c .before .before .before .before .before .before .before .before .before .loop .inv .0) (c .before .before .before .before .before .before .before .before .loop-test .taken) g, λ Q o a so l h f e. field-symbol Q _ _ (c .before .before .before .before .before .before .before .before .before .loop .left) l (c .before .before .before .before .before .before .before .before .loop-test .taken) (c .before .before .before .before .before .before .before .before .before .loop .inv .0 .most) (c .before .before .before .before .before .before .before .before .before .loop .inv .1 Q o a so l h f e) (c .before .before .before .before .before .before .before .if1 .left) _ _ (λ b. c .before .before .before .before .one .ensures .1 o b so) (c .if4 .left) _ (c .before .before .u3 .given .1))
 
--- src/fields.rt:88:25
+-- src/fields.rt:97:25
 fields-enum-known-u-4 : (t : ℕ) → fields-lts.Need-enum-known-u-4 (
-  next-reads.Asked,
-  next-reads.Learnt,
+  one-reads.Asked,
+  one-reads.Learnt,
   fields-below t,
   fields.Post,
 ) (fields-at t) fields.Post fields-Inv-loop fields-μ-loop
 fields-enum-known-u-4 t c = search needs
 
--- src/fields.rt:90:17
-fields-add-names-2 : (t : ℕ) → fields-lts.Need-add-names-2 (
-  next-reads.Asked,
-  next-reads.Learnt,
+-- src/fields.rt:99:21
+fields-returns-6 : (t : ℕ) → fields-lts.Need-returns-6 (
+  one-reads.Asked,
+  one-reads.Learnt,
   fields-below t,
   fields.Post,
 ) (fields-at t) fields.Post fields-Inv-loop fields-μ-loop
-fields-add-names-2 t c = let g = rw (c .before .u4 .given .1) at (c .before .before .before .next .ensures .0 .0) in omega (arith, g .fair .few)
+fields-returns-6 t c = (tt, λ Q o a so l h f e. field-full Q _ _ (c .before .before .before .before .before .before .before .before .before .loop .left) l (c .before .before .before .before .before .before .before .before .loop-test .taken) (c .before .before .before .before .before .before .before .before .before .loop .inv .0 .most) (c .before .before .before .before .before .before .before .before .before .loop .inv .1 Q o a so l h f e) (c .before .before .before .before .before .before .before .if1 .left) _ _ (λ b. c .before .before .before .before .one .ensures .1 o b so) _ (c .before .before .u4 .given .1) refl (c .if5 .taken))
 
--- src/fields.rt:91:17
-fields-sub-rows-4 : (t : ℕ) → fields-lts.Need-sub-rows-4 (
-  next-reads.Asked,
-  next-reads.Learnt,
+-- src/fields.rt:102:17
+fields-add-names-2 : (t : ℕ) → fields-lts.Need-add-names-2 (
+  one-reads.Asked,
+  one-reads.Learnt,
   fields-below t,
   fields.Post,
 ) (fields-at t) fields.Post fields-Inv-loop fields-μ-loop
-fields-sub-rows-4 t c = let g = rw (c .before .u4 .given .1) at (c .before .before .before .next .ensures .0 .1) in omega arith
+fields-add-names-2 t c = let g = rw (c .before .before .u4 .given .1) at (c .before .before .before .before .one .ensures .0) in omega (arith, g .fair .few)
+
+-- src/fields.rt:103:17
+fields-sub-rows-4 : (t : ℕ) → fields-lts.Need-sub-rows-4 (
+  one-reads.Asked,
+  one-reads.Learnt,
+  fields-below t,
+  fields.Post,
+) (fields-at t) fields.Post fields-Inv-loop fields-μ-loop
+fields-sub-rows-4 t c = omega (arith, c .if5 .left)
 
 -- src/fields.rt:54:5
 fields-loop-less-4 : (t : ℕ) → fields-lts.Need-loop-less-4 (
-  next-reads.Asked,
-  next-reads.Learnt,
+  one-reads.Asked,
+  one-reads.Learnt,
   fields-below t,
   fields.Post,
 ) (fields-at t) fields.Post fields-Inv-loop fields-μ-loop
-fields-loop-less-4 t c = let g = rw (c .before .u4 .given .1) at (c .before .before .before .next .ensures .0 .0) in omega (arith, g .on, g .within)
+fields-loop-less-4 t c = let g = rw (c .before .before .u4 .given .1) at (c .before .before .before .before .one .ensures .0) in omega (arith, g .on, g .within)
 
 -- src/fields.rt:54:5
 fields-loop-again-4 : (t : ℕ) → fields-lts.Need-loop-again-4 (
-  next-reads.Asked,
-  next-reads.Learnt,
+  one-reads.Asked,
+  one-reads.Learnt,
   fields-below t,
   fields.Post,
 ) (fields-at t) fields.Post fields-Inv-loop fields-μ-loop
-fields-loop-again-4 t c = let g = rw (c .before .u4 .given .1) at (c .before .before .before .next .ensures .0 .0) in (along-key (c .before .before .before .before .before .before .before .before .loop .inv .0) (c .before .before .before .before .before .before .before .loop-test .taken) g, λ Q o a so l h f e. field-new-key Q _ _ (c .before .before .before .before .before .before .before .before .loop .left) l (c .before .before .before .before .before .before .before .loop-test .taken) (c .before .before .before .before .before .before .before .before .loop .inv .0 .most) (c .before .before .before .before .before .before .before .before .loop .inv .1 Q o a so l h f e) (c .before .before .before .before .before .before .if1 .left) _ _ (λ b. c .before .before .before .next .ensures .1 o b so) _ (c .before .u4 .given .1))
+fields-loop-again-4 t c = let g = rw (c .before .before .u4 .given .1) at (c .before .before .before .before .one .ensures .0) in (along-key (c .before .before .before .before .before .before .before .before .before .loop .inv .0) (c .before .before .before .before .before .before .before .before .loop-test .taken) g, λ Q o a so l h f e. field-new-key Q _ _ (c .before .before .before .before .before .before .before .before .before .loop .left) l (c .before .before .before .before .before .before .before .before .loop-test .taken) (c .before .before .before .before .before .before .before .before .before .loop .inv .0 .most) (c .before .before .before .before .before .before .before .before .before .loop .inv .1 Q o a so l h f e) (c .before .before .before .before .before .before .before .if1 .left) _ _ (λ b. c .before .before .before .before .one .ensures .1 o b so) (c .if5 .left) _ (c .before .before .u4 .given .1))
 
--- src/fields.rt:94:28
+-- src/fields.rt:106:28
 fields-enum-known-n : (t : ℕ) → fields-lts.Need-enum-known-n (
-  next-reads.Asked,
-  next-reads.Learnt,
+  one-reads.Asked,
+  one-reads.Learnt,
   fields-below t,
   fields.Post,
 ) (fields-at t) fields.Post fields-Inv-loop fields-μ-loop
 fields-enum-known-n t c = search needs
 
--- src/fields.rt:97:17
+-- src/fields.rt:108:21
+fields-returns-7 : (t : ℕ) → fields-lts.Need-returns-7 (
+  one-reads.Asked,
+  one-reads.Learnt,
+  fields-below t,
+  fields.Post,
+) (fields-at t) fields.Post fields-Inv-loop fields-μ-loop
+fields-returns-7 t c = (tt, λ Q o a so l h f e. field-full Q _ _ (c .before .before .before .before .before .before .before .before .before .loop .left) l (c .before .before .before .before .before .before .before .before .loop-test .taken) (c .before .before .before .before .before .before .before .before .before .loop .inv .0 .most) (c .before .before .before .before .before .before .before .before .before .loop .inv .1 Q o a so l h f e) (c .before .before .before .before .before .before .before .if1 .left) _ _ (λ b. c .before .before .before .before .one .ensures .1 o b so) _ (c .before .before .n .given .1) refl (c .if6 .taken))
+
+-- src/fields.rt:110:41
 fields-sub-fields : (t : ℕ) → fields-lts.Need-sub-fields (
-  next-reads.Asked,
-  next-reads.Learnt,
+  one-reads.Asked,
+  one-reads.Learnt,
   fields-below t,
   fields.Post,
 ) (fields-at t) fields.Post fields-Inv-loop fields-μ-loop
-fields-sub-fields t c = let g = rw (c .before .n .given .1) at (c .before .before .before .next .ensures .0 .0) in omega (arith, g .0)
+fields-sub-fields t c = let g = rw (c .before .before .n .given .1) at (c .before .before .before .before .one .ensures .0) in omega (arith, g .0)
 
--- src/fields.rt:101:17
+-- src/fields.rt:110:65
 fields-sub-fields-2 : (t : ℕ) → fields-lts.Need-sub-fields-2 (
-  next-reads.Asked,
-  next-reads.Learnt,
+  one-reads.Asked,
+  one-reads.Learnt,
   fields-below t,
   fields.Post,
 ) (fields-at t) fields.Post fields-Inv-loop fields-μ-loop
-fields-sub-fields-2 t c = let g = rw (c .before .n .given .1) at (c .before .before .before .next .ensures .0 .1) in omega arith
+fields-sub-fields-2 t c = omega (arith, c .if6 .left)
 
--- src/fields.rt:94:43
+-- src/fields.rt:110:23
 fields-fields-requires : (t : ℕ) → fields-lts.Need-fields-requires (
-  next-reads.Asked,
-  next-reads.Learnt,
+  one-reads.Asked,
+  one-reads.Learnt,
   fields-below t,
   fields.Post,
 ) (fields-at t) fields.Post fields-Inv-loop fields-μ-loop
-fields-fields-requires t c κs = let g = rw (c .before .before .before .n .given .1) at (c .before .before .before .before .before .next .ensures .0 .0) in (omega (arith, c .before .before .before .before .before .before .before .before .before .before .before .before .pre .0, g .2 .on, g .2 .within, c .before .before .before .before .before .before .before .before .before .before .loop .inv .0 .back, c .before .before .before .before .before .before .before .before .before .before .loop .inv .0 .most), (g .2 .within, c .before .before .before .before .before .before .before .before .before .before .before .before .pre .1 .1, g .2 .fair))
+fields-fields-requires t c κs = let g = rw (c .before .before .before .before .n .given .1) at (c .before .before .before .before .before .before .one .ensures .0) in (omega (arith, c .before .before .before .before .before .before .before .before .before .before .before .before .before .pre .0, g .2 .on, g .2 .within, c .before .before .before .before .before .before .before .before .before .before .before .loop .inv .0 .back, c .before .before .before .before .before .before .before .before .before .before .before .loop .inv .0 .most), (g .2 .within, c .before .before .before .before .before .before .before .before .before .before .before .before .before .pre .1 .1, g .2 .fair))
 
--- src/fields.rt:105:27
+-- src/fields.rt:111:31
 fields-enum-known-k-2 : (t : ℕ) → fields-lts.Need-enum-known-k-2 (
-  next-reads.Asked,
-  next-reads.Learnt,
+  one-reads.Asked,
+  one-reads.Learnt,
   fields-below t,
   fields.Post,
 ) (fields-at t) fields.Post fields-Inv-loop fields-μ-loop
 fields-enum-known-k-2 t c = search needs
 
--- src/fields.rt:106:21
-fields-returns-3 : (t : ℕ) → fields-lts.Need-returns-3 (
-  next-reads.Asked,
-  next-reads.Learnt,
+-- src/fields.rt:112:25
+fields-returns-8 : (t : ℕ) → fields-lts.Need-returns-8 (
+  one-reads.Asked,
+  one-reads.Learnt,
   fields-below t,
   fields.Post,
 ) (fields-at t) fields.Post fields-Inv-loop fields-μ-loop
-fields-returns-3 t c = let g = rw (c .before .before .before .before .before .before .before .n .given .1) at (c .before .before .before .before .before .before .before .before .before .next .ensures .0 .0) in (tt, λ Q o a so l h f e. field-held-bad Q _ _ (c .before .before .before .before .before .before .before .before .before .before .before .before .before .before .loop .left) l (c .before .before .before .before .before .before .before .before .before .before .before .before .before .loop-test .taken) (c .before .before .before .before .before .before .before .before .before .before .before .before .before .before .loop .inv .0 .most) (c .before .before .before .before .before .before .before .before .before .before .before .before .before .before .loop .inv .1 Q o a so l h f e) (c .before .before .before .before .before .before .before .before .before .before .before .before .if1 .left) _ _ (λ b. c .before .before .before .before .before .before .before .before .before .next .ensures .1 o b so) _ _ (c .before .before .before .before .before .before .before .n .given .1) (g .0) (g .1) _ _ (λ Q b. c .before .before .before .fields .ensures .1 Q o b so) _ _ (c .before .k2 .given .1))
+fields-returns-8 t c = let g = rw (c .before .before .before .before .before .before .before .before .n .given .1) at (c .before .before .before .before .before .before .before .before .before .before .one .ensures .0) in (tt, λ Q o a so l h f e. field-held-bad Q _ _ (c .before .before .before .before .before .before .before .before .before .before .before .before .before .before .before .loop .left) l (c .before .before .before .before .before .before .before .before .before .before .before .before .before .before .loop-test .taken) (c .before .before .before .before .before .before .before .before .before .before .before .before .before .before .before .loop .inv .0 .most) (c .before .before .before .before .before .before .before .before .before .before .before .before .before .before .before .loop .inv .1 Q o a so l h f e) (c .before .before .before .before .before .before .before .before .before .before .before .before .before .if1 .left) _ _ (λ b. c .before .before .before .before .before .before .before .before .before .before .one .ensures .1 o b so) (c .before .before .before .before .before .before .if6 .left) _ _ (c .before .before .before .before .before .before .before .before .n .given .1) (g .0) (g .1) _ _ (λ Q b. c .before .before .before .fields .ensures .1 Q o b so) _ _ (c .before .k2 .given .1))
 
--- src/fields.rt:108:30
+-- src/fields.rt:114:34
 fields-enum-known-v : (t : ℕ) → fields-lts.Need-enum-known-v (
-  next-reads.Asked,
-  next-reads.Learnt,
+  one-reads.Asked,
+  one-reads.Learnt,
   fields-below t,
   fields.Post,
 ) (fields-at t) fields.Post fields-Inv-loop fields-μ-loop
 fields-enum-known-v t c = search needs
 
--- src/fields.rt:109:21
-fields-returns-4 : (t : ℕ) → fields-lts.Need-returns-4 (
-  next-reads.Asked,
-  next-reads.Learnt,
+-- src/fields.rt:115:25
+fields-returns-9 : (t : ℕ) → fields-lts.Need-returns-9 (
+  one-reads.Asked,
+  one-reads.Learnt,
   fields-below t,
   fields.Post,
 ) (fields-at t) fields.Post fields-Inv-loop fields-μ-loop
-fields-returns-4 t c = let g = rw (c .before .before .before .before .before .before .before .n .given .1) at (c .before .before .before .before .before .before .before .before .before .next .ensures .0 .0) in let w = rw (c .before .v .given .1) at (c .before .before .before .fields .ensures .0) in (tt, λ Q o a so l h f e. field-held-end Q _ _ (c .before .before .before .before .before .before .before .before .before .before .before .before .before .before .loop .left) l (c .before .before .before .before .before .before .before .before .before .before .before .before .before .loop-test .taken) (c .before .before .before .before .before .before .before .before .before .before .before .before .before .before .loop .inv .0 .most) (c .before .before .before .before .before .before .before .before .before .before .before .before .before .before .loop .inv .1 Q o a so l h f e) (c .before .before .before .before .before .before .before .before .before .before .before .before .if1 .left) _ _ (λ b. c .before .before .before .before .before .before .before .before .before .next .ensures .1 o b so) _ _ (c .before .before .before .before .before .before .before .n .given .1) (g .0) (g .1) _ _ (λ Q b. c .before .before .before .fields .ensures .1 Q o b so) _ _ (c .before .v .given .1) (w .2) (w .1))
+fields-returns-9 t c = let g = rw (c .before .before .before .before .before .before .before .before .n .given .1) at (c .before .before .before .before .before .before .before .before .before .before .one .ensures .0) in let w = rw (c .before .v .given .1) at (c .before .before .before .fields .ensures .0) in (tt, λ Q o a so l h f e. field-held-end Q _ _ (c .before .before .before .before .before .before .before .before .before .before .before .before .before .before .before .loop .left) l (c .before .before .before .before .before .before .before .before .before .before .before .before .before .before .loop-test .taken) (c .before .before .before .before .before .before .before .before .before .before .before .before .before .before .before .loop .inv .0 .most) (c .before .before .before .before .before .before .before .before .before .before .before .before .before .before .before .loop .inv .1 Q o a so l h f e) (c .before .before .before .before .before .before .before .before .before .before .before .before .before .if1 .left) _ _ (λ b. c .before .before .before .before .before .before .before .before .before .before .one .ensures .1 o b so) (c .before .before .before .before .before .before .if6 .left) _ _ (c .before .before .before .before .before .before .before .before .n .given .1) (g .0) (g .1) _ _ (λ Q b. c .before .before .before .fields .ensures .1 Q o b so) _ _ (c .before .v .given .1) (w .2) (w .1))
 
--- src/fields.rt:111:28
+-- src/fields.rt:117:32
 fields-enum-known-v-2 : (t : ℕ) → fields-lts.Need-enum-known-v-2 (
-  next-reads.Asked,
-  next-reads.Learnt,
+  one-reads.Asked,
+  one-reads.Learnt,
   fields-below t,
   fields.Post,
 ) (fields-at t) fields.Post fields-Inv-loop fields-μ-loop
 fields-enum-known-v-2 t c = search needs
 
--- src/fields.rt:116:21
+-- src/fields.rt:122:25
 fields-sub-left-3 : (t : ℕ) → fields-lts.Need-sub-left-3 (
-  next-reads.Asked,
-  next-reads.Learnt,
+  one-reads.Asked,
+  one-reads.Learnt,
   fields-below t,
   fields.Post,
 ) (fields-at t) fields.Post fields-Inv-loop fields-μ-loop
@@ -356,35 +401,35 @@ fields-sub-left-3 t c = search needs
 
 -- src/fields.rt:54:5
 fields-loop-less-5 : (t : ℕ) → fields-lts.Need-loop-less-5 (
-  next-reads.Asked,
-  next-reads.Learnt,
+  one-reads.Asked,
+  one-reads.Learnt,
   fields-below t,
   fields.Post,
 ) (fields-at t) fields.Post fields-Inv-loop fields-μ-loop
-fields-loop-less-5 t c = let g = rw (c .before .before .before .before .before .before .before .n .given .1) at (c .before .before .before .before .before .before .before .before .before .next .ensures .0 .0) in let w = rw (c .before .v2 .given .1) at (c .before .before .before .fields .ensures .0) in omega (arith, g .2 .on, g .2 .within, w .1, w .2)
+fields-loop-less-5 t c = let g = rw (c .before .before .before .before .before .before .before .before .n .given .1) at (c .before .before .before .before .before .before .before .before .before .before .one .ensures .0) in let w = rw (c .before .v2 .given .1) at (c .before .before .before .fields .ensures .0) in omega (arith, g .2 .on, g .2 .within, w .1, w .2)
 
 -- src/fields.rt:54:5
 fields-loop-again-5 : (t : ℕ) → fields-lts.Need-loop-again-5 (
-  next-reads.Asked,
-  next-reads.Learnt,
+  one-reads.Asked,
+  one-reads.Learnt,
   fields-below t,
   fields.Post,
 ) (fields-at t) fields.Post fields-Inv-loop fields-μ-loop
-fields-loop-again-5 t c = let g = rw (c .before .before .before .before .before .before .before .n .given .1) at (c .before .before .before .before .before .before .before .before .before .next .ensures .0 .0) in let w = rw (c .before .v2 .given .1) at (c .before .before .before .fields .ensures .0) in (along-held (c .before .before .before .before .before .before .before .before .before .before .before .before .before .before .loop .inv .0) (c .before .before .before .before .before .before .before .before .before .before .before .before .before .loop-test .taken) _ (g .2) (w .0) (w .1) (w .2), λ Q o a so l h f e. field-held-good Q _ _ (c .before .before .before .before .before .before .before .before .before .before .before .before .before .before .loop .left) l (c .before .before .before .before .before .before .before .before .before .before .before .before .before .loop-test .taken) (c .before .before .before .before .before .before .before .before .before .before .before .before .before .before .loop .inv .0 .most) (c .before .before .before .before .before .before .before .before .before .before .before .before .before .before .loop .inv .1 Q o a so l h f e) (c .before .before .before .before .before .before .before .before .before .before .before .before .if1 .left) _ _ (λ b. c .before .before .before .before .before .before .before .before .before .next .ensures .1 o b so) _ _ (c .before .before .before .before .before .before .before .n .given .1) (g .0) (g .1) _ _ (λ Q b. c .before .before .before .fields .ensures .1 Q o b so) _ (c .before .v2 .given .1) (w .3))
+fields-loop-again-5 t c = let g = rw (c .before .before .before .before .before .before .before .before .n .given .1) at (c .before .before .before .before .before .before .before .before .before .before .one .ensures .0) in let w = rw (c .before .v2 .given .1) at (c .before .before .before .fields .ensures .0) in (along-held (c .before .before .before .before .before .before .before .before .before .before .before .before .before .before .before .loop .inv .0) (c .before .before .before .before .before .before .before .before .before .before .before .before .before .before .loop-test .taken) _ (g .2) (w .0) (w .1) (w .2), λ Q o a so l h f e. field-held-good Q _ _ (c .before .before .before .before .before .before .before .before .before .before .before .before .before .before .before .loop .left) l (c .before .before .before .before .before .before .before .before .before .before .before .before .before .before .loop-test .taken) (c .before .before .before .before .before .before .before .before .before .before .before .before .before .before .before .loop .inv .0 .most) (c .before .before .before .before .before .before .before .before .before .before .before .before .before .before .before .loop .inv .1 Q o a so l h f e) (c .before .before .before .before .before .before .before .before .before .before .before .before .before .if1 .left) _ _ (λ b. c .before .before .before .before .before .before .before .before .before .before .one .ensures .1 o b so) (c .before .before .before .before .before .before .if6 .left) _ _ (c .before .before .before .before .before .before .before .before .n .given .1) (g .0) (g .1) _ _ (λ Q b. c .before .before .before .fields .ensures .1 Q o b so) _ (c .before .v2 .given .1) (w .3))
 
 -- src/fields.rt:32:1
-fields-returns-5 : (t : ℕ) → fields-lts.Need-returns-5 (
-  next-reads.Asked,
-  next-reads.Learnt,
+fields-returns-10 : (t : ℕ) → fields-lts.Need-returns-10 (
+  one-reads.Asked,
+  one-reads.Learnt,
   fields-below t,
   fields.Post,
 ) (fields-at t) fields.Post fields-Inv-loop fields-μ-loop
-fields-returns-5 t c = let z : c .before .loop .left ≡ 0 = omega arith in ((c .before .loop .inv .0 .fair, omega (arith, c .before .loop .inv .0 .back), c .before .loop .inv .0 .within, c .before .loop .inv .0 .rest z), λ Q o a so l h f e. at-place (ap (λ (n : ℕ). Q n (eqb (c .before .loop .keyed) 1)) z ∙ ap (λ (k : ℕ). Q 0 (eqb k 1)) (c .before .loop .inv .0 .rest z)) (c .before .loop .inv .1 Q o a so l h f e))
+fields-returns-10 t c = let z : c .before .loop .left ≡ 0 = omega arith in ((c .before .loop .inv .0 .fair, omega (arith, c .before .loop .inv .0 .back), c .before .loop .inv .0 .within, c .before .loop .inv .0 .rest z), λ Q o a so l h f e. at-place (ap (λ (n : ℕ). Q n (eqb (c .before .loop .keyed) 1)) z ∙ ap (λ (k : ℕ). Q 0 (eqb k 1)) (c .before .loop .inv .0 .rest z)) (c .before .loop .inv .1 Q o a so l h f e))
 
 pub +fields-spec : {M : Type 1} → statement M
 +fields-spec = done μ-fields λ t. fields-lts.spec (
-  next-reads.Asked,
-  next-reads.Learnt,
+  one-reads.Asked,
+  one-reads.Learnt,
   fields-below t,
   fields.Post,
 )
@@ -394,39 +439,44 @@ pub +fields-spec : {M : Type 1} → statement M
     fields-μ-loop
     (fields-loop-holds t)
     (fields-returns t)
-    (fields-next-requires t)
+    (fields-one-requires t)
     (fields-enum-known-k t)
     (fields-returns-2 t)
     (fields-enum-known-u t)
+    (fields-returns-3 t)
     (fields-sub-rows t)
     (fields-sub-left t)
     (fields-loop-less t)
     (fields-loop-again t)
     (fields-enum-known-u-2 t)
+    (fields-returns-4 t)
     (fields-sub-rows-2 t)
     (fields-loop-less-2 t)
     (fields-loop-again-2 t)
     (fields-enum-known-u-3 t)
+    (fields-returns-5 t)
     (fields-add-names t)
     (fields-sub-rows-3 t)
     (fields-sub-left-2 t)
     (fields-loop-less-3 t)
     (fields-loop-again-3 t)
     (fields-enum-known-u-4 t)
+    (fields-returns-6 t)
     (fields-add-names-2 t)
     (fields-sub-rows-4 t)
     (fields-loop-less-4 t)
     (fields-loop-again-4 t)
     (fields-enum-known-n t)
+    (fields-returns-7 t)
     (fields-sub-fields t)
     (fields-sub-fields-2 t)
     (fields-fields-requires t)
     (fields-enum-known-k-2 t)
-    (fields-returns-3 t)
+    (fields-returns-8 t)
     (fields-enum-known-v t)
-    (fields-returns-4 t)
+    (fields-returns-9 t)
     (fields-enum-known-v-2 t)
     (fields-sub-left-3 t)
     (fields-loop-less-5 t)
     (fields-loop-again-5 t)
-    (fields-returns-5 t)
+    (fields-returns-10 t)
