@@ -1,24 +1,21 @@
--- Runs of ASCII: an OR of bytes tells, and what it says of UTF-8 and of the local rule. Assumes nothing.
+-- Runs of ASCII, byte by byte, and what one says of UTF-8 and of the local rule. Assumes nothing.
 use mathlib.Core.Path.{_≡_, refl}
-use mathlib.Core.Bool.{true}
+use mathlib.Core.Bool.{Bool, true, false, _&&_}
 use mathlib.Core.List.{List, [], _∷_}
 use Prim.Native.Nat.{ℕ, suc, _+_, _-_, _*_, _≤_, _<_}
 use native.Mathlib.Omega.{arith}
 use lib.ListN.{length, getD}
-use lib.Bits.{bitOr, or-add-and, and-le-l, and-le-r}
+use lib.Dec.{ltb}
+use borrow.Author.Tests.{ltb-true}
 use Rattle.format.specs.Choice.{pick, _&&_ as and}
 use Rattle.format.specs.Utf8.{leads, goodAfter, utf8}
-use Rattle.format.proofs.Tests.{leb-yes, leb-no}
+use Rattle.format.proofs.Tests.{clash, leb-yes, leb-no}
 use Rattle.wire.specs.Local.{due, passes, passesAt, Passing, Ascii}
 use Rattle.wire.proofs.Ranges.{one-more, joined}
 
-or-low : (a b : ℕ) → bitOr a b < 0x80 → (a < 0x80) × (b < 0x80)
-or-low a b h = (omega (arith, or-add-and a b, and-le-r a b), omega (arith, or-add-and a b, and-le-l a b))
-
--- One OR of many bytes is below 0x80 only if each of them is.
-pub ascii-more : (s : List ℕ) (a j bits : ℕ) → (bits < 0x80 → Ascii s a (a + j)) → bitOr bits (getD s (a + j) 0) < 0x80 → Ascii s a (a + (j + 1))
-ascii-more s a j bits f h =
-    let w = or-low bits (getD s (a + j) 0) h in one-more (λ i. getD s i 0 < 0x80) a j (f (w .0)) (w .1)
+pub ascii-more : (s : List ℕ) (a j : ℕ) (b : Bool) → (b ≡ true → Ascii s a (a + j)) → b && ltb (getD s (a + j) 0) 0x80 ≡ true → Ascii s a (a + (j + 1))
+ascii-more s a j true f h = one-more (λ i. getD s i 0 < 0x80) a j (f refl) (ltb-true _ _ h)
+ascii-more s a j false f h = clash h refl
 
 ascii-leads : (b : ℕ) → b < 0x80 → leads b ≡ 0
 unfolding leads pick

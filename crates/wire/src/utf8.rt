@@ -72,18 +72,18 @@ fn by_bytes(s: &[u8]) -> bool
     k == 0
 }
 
-// Are the n bytes from a on ASCII? One OR of them all tells. Callers know n, so that this becomes vector code.
+// Are the n bytes from a on ASCII? Callers know n, so that this becomes vector code.
 fn ascii_at(s: &[u8], a: usize, n: usize) -> bool
     requires { ⌜ a + n ≤ length (now s) ⌝ }
     ensures { λ r. ⌜ (r ≡ true → Ascii (now (s .entry)) a (a + n)) ⌝ }
 {
-    let mut bits = 0u8;
+    let mut ascii = true;
     let mut j = 0;
     while j < n {
-        bits = bits | s[a + j];
+        ascii = ascii & (s[a + j] < 0x80);
         j += 1;
     }
-    bits < 0x80
+    ascii
 }
 
 // Are the first k bytes and the last k, which are all, ASCII?
@@ -91,10 +91,7 @@ fn ascii_ends(s: &[u8], k: usize) -> bool
     requires { ⌜ (k ≤ length (now s)) × (length (now s) ≤ 2 * k) ⌝ }
     ensures { λ r. ⌜ (r ≡ true → utf8 (now (s .entry)) ≡ true) ⌝ }
 {
-    if !ascii_at(s, 0, k) {
-        return false;
-    }
-    ascii_at(s, s.len() - k, k)
+    ascii_at(s, 0, k) & ascii_at(s, s.len() - k, k)
 }
 
 // Is a short text all ASCII? Two reads of a fixed width that meet or overlap take less than a loop.

@@ -1,9 +1,9 @@
--- `ascii_at` finds ASCII. The invariant: if the OR so far is below 0x80, the bytes so far are ASCII. Assumes nothing.
+-- `ascii_at` finds ASCII. The invariant: if the answer is yes so far, the bytes so far are ASCII. Assumes nothing.
 use mathlib.Core.Path.{_≡_}
-use Prim.Native.Nat.{_+_, _-_, _≤_, _<_}
+use mathlib.Core.Bool.{true}
+use Prim.Native.Nat.{_+_, _-_, _≤_}
 use native.Mathlib.Omega.{arith}
 use borrow.Author.Needs.{needs}
-use borrow.Author.Tests.{ltb-true}
 use Rattle.wire.specs.Local.{Ascii}
 use Rattle.wire.proofs.Ranges.{none-in}
 use Rattle.wire.proofs.AsciiRuns.{ascii-more}
@@ -11,19 +11,19 @@ use Rattle.wire.proofs.utf8.ascii_at.Statement.{statement}
 use Rattle.wire.proofs.utf8.ascii_at.Tie as tie
 
 abbrev Inv-loop : tie.InvT-loop
-Inv-loop s a n bits₀ j₀ bits j = (j ≤ n) × (bits < 0x80 → Ascii s a (a + j))
+Inv-loop s a n ascii₀ j₀ ascii j = (j ≤ n) × (ascii ≡ true → Ascii s a (a + j))
 
 abbrev μ-loop : tie.MeasureT-loop
-μ-loop s a n bits₀ j₀ bits j = n - j
+μ-loop s a n ascii₀ j₀ ascii j = n - j
 
 loop-holds : tie.Need-loop-holds Inv-loop μ-loop
 loop-holds c = (search needs, λ _. none-in _ _)
 
-add-bits : tie.Need-add-bits Inv-loop μ-loop
-add-bits c = search needs
+add-ascii : tie.Need-add-ascii Inv-loop μ-loop
+add-ascii c = search needs
 
-shared-slice-read-bits : tie.Need-shared-slice-read-bits Inv-loop μ-loop
-shared-slice-read-bits c = search needs
+shared-slice-read-ascii : tie.Need-shared-slice-read-ascii Inv-loop μ-loop
+shared-slice-read-ascii c = search needs
 
 add-j : tie.Need-add-j Inv-loop μ-loop
 add-j c = search needs
@@ -35,7 +35,7 @@ loop-again : tie.Need-loop-again Inv-loop μ-loop
 loop-again c = (search needs, ascii-more (c .before .before .before .args .s .now) _ _ _ (c .before .before .loop .inv .1))
 
 returns : tie.Need-returns Inv-loop μ-loop
-returns c = λ e. let h : c .before .loop .j ≡ c .before .before .args .n = omega arith in rw h at (c .before .loop .inv .1 (ltb-true _ _ e))
+returns c = λ e. let h : c .before .loop .j ≡ c .before .before .args .n = omega arith in rw h at (c .before .loop .inv .1 e)
 
 pub ascii-at-spec : {M : Type 1} → statement M
 ascii-at-spec =
@@ -44,8 +44,8 @@ ascii-at-spec =
     Inv-loop
     μ-loop
     loop-holds
-    add-bits
-    shared-slice-read-bits
+    add-ascii
+    shared-slice-read-ascii
     add-j
     loop-less
     loop-again
