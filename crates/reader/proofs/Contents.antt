@@ -10,19 +10,18 @@ use lib.Dec.{leb, ltb, eqb}
 use lib.ListN.{length, take, drop, length-append, length-drop}
 use lib.Seq.{drop-drop}
 use Rattle.format.specs.declared.header.Header.{Header}
-use Rattle.format.specs.declared.error.Error.the-variants.{UnexpectedKey, Truncated, InvalidUtf8, NotCanonical, TooManyEntries}
 use Rattle.format.specs.Choice.{pick, _&&_}
 use Rattle.format.specs.Limits.{max-entries}
-use Rattle.format.specs.Answer.{Answer, fail}
+use Rattle.format.specs.Answer.{fail}
 use Rattle.format.specs.Utf8.{utf8}
-use Rattle.format.specs.Item.{Item, isKey, isContainer, isName, isText}
+use Rattle.format.specs.Item.{isKey, isName, isText}
 use Rattle.format.specs.Names.{index, isSome}
 use Rattle.format.specs.Place.{Place, keyAfterKey, tooDeep, moved}
 use Rattle.format.specs.Reading.{Options, State, Found, content, formOf, isContent, itemOf, itemsOf, after, headed}
 use Rattle.format.proofs.Tests.{cases, clash, equal, leb-yes, leb-no, ltb-yes, ltb-no, eqb-yes, eqb-no, and-no-left, and-no-right, and-yes, pick-yes, pick-no}
 use Rattle.reader.specs.declared.item.Out.{Out}
 use Rattle.reader.specs.declared.item.Out.the-variants as out
-use Rattle.reader.specs.Judging.{entriesOf, Fair, Stands, Moved, Moves, Goes, Judged, Case, Body, Name, partOf, isKnown, freshOf, Entered, known, full, entered, rowed}
+use Rattle.reader.specs.Judging.{entriesOf, Fair, Stands, Moves, Goes, Judged, Case, Body, Name, partOf, isKnown, freshOf, Entered, known, full, entered, rowed}
 use Rattle.reader.proofs.Ladder.{later, to-later, not-key, is-key, not-container, not-name, is-name}
 use Rattle.reader.proofs.Entries.{length-entries}
 use Rattle.reader.proofs.Flat.{ended-keyed, moved-key, moved-value}

@@ -1,5 +1,5 @@
 -- The entries that packed numbers stand for: how many, one by its index, and one more. Assumes nothing.
-use mathlib.Core.Path.{_≡_, refl, ap, sym, _∙_}
+use mathlib.Core.Path.{_≡_, refl, ap, _∙_}
 use mathlib.Core.List.{List, [], _∷_, _++_, map}
 use mathlib.Core.Option.{none, some}
 use Prim.Native.Nat.{ℕ, zero, suc, _+_, _≤_, _<_}
@@ -7,7 +7,6 @@ use native.Mathlib.Numerals.{add-one}
 use native.Mathlib.Omega.{arith}
 use lib.ListN.{length, take, getD, set, getElem?, length-map}
 use lib.Seq.{length-take-le, take-suc-set, getD-take}
-use Rattle.format.specs.Reading.{Found}
 use Rattle.format.proofs.Lists.{map-append}
 use Rattle.reader.specs.Judging.{foundIn, entriesOf}
 

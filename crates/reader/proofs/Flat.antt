@@ -1,9 +1,9 @@
 -- Items with no content of their own (fixed kinds, containers, references): what each answer means. Assumes nothing.
 use mathlib.Core.Path.{_≡_, refl, ap, sym, _∙_}
 use mathlib.Core.Logic.{_≢_}
-use mathlib.Core.Bool.{Bool, true, false}
+use mathlib.Core.Bool.{true, false}
 use mathlib.Core.List.{List, [], _∷_}
-use mathlib.Core.Option.{none, some}
+use mathlib.Core.Option.{some}
 use Prim.Native.Nat.{ℕ, _+_, _-_, _%_, _^_, _≤_, _<_, min}
 use native.Mathlib.Omega.{arith}
 use lib.Dec.{leb, ltb, eqb}
@@ -13,14 +13,14 @@ use Rattle.format.specs.declared.header.FieldCount.{FieldCount}
 use Rattle.format.specs.declared.error.Error.the-variants.{TooDeep, UnexpectedKey, UndefinedReference}
 use Rattle.format.specs.Choice.{pick, _&&_}
 use Rattle.format.specs.Limits.{max-depth}
-use Rattle.format.specs.Answer.{Answer, fail}
+use Rattle.format.specs.Answer.{fail}
 use Rattle.format.specs.Item.{Item, isKey, isContainer}
 use Rattle.format.specs.Place.{Place, keyAfterKey, tooDeep, ended, moved}
 use Rattle.format.specs.Reading.{Options, State, Found, Form, fixed, reference, formOf, isContent, itemOf, after, headed}
 use Rattle.format.proofs.Tests.{cases, order, equal, eqb-yes, eqb-no, leb-true, leb-yes, leb-no, ltb-yes, ltb-no, and-true, and-no-left, and-no-right, and-yes, pick-yes, pick-no}
 use Rattle.symbols.specs.Entry.{nameIn}
 use Rattle.reader.specs.declared.item.Out.the-variants as out
-use Rattle.reader.specs.Judging.{foundIn, entriesOf, Fair, Stands, Goes, Judged, Case, spot, rowed}
+use Rattle.reader.specs.Judging.{foundIn, Goes, Judged, Case, spot}
 use Rattle.reader.proofs.Ladder.{later, to-later, missing, by-row, not-key, is-key, not-container, is-container}
 use Rattle.reader.proofs.Entries.{entry-none, entry-is}
 

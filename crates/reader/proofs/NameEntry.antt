@@ -1,8 +1,8 @@
 -- A name in full in the packed table: what its entry stands for, and what a lookup of it says. Assumes nothing.
 use mathlib.Core.Path.{_≡_, refl, ap, sym, subst, _∙_}
-use mathlib.Core.Bool.{Bool, true, false}
+use mathlib.Core.Bool.{true, false}
 use mathlib.Core.List.{List, [], _∷_, _++_, map}
-use mathlib.Core.Option.{Option, none, some}
+use mathlib.Core.Option.{Option, none}
 use Prim.Native.Nat.{ℕ, _+_, _-_, _*_, _≤_, _<_}
 use native.Mathlib.Omega.{arith}
 use lib.ListN.{length, take, drop, set, length-drop, length-set}
@@ -21,7 +21,7 @@ use Rattle.symbols.proofs.EntryLaws.{Packed, packed-plain, packed-marked, packe
 use Rattle.symbols.proofs.ChainLaws.{found-some, found-nothing}
 use Rattle.reader.specs.declared.item.Out.{Out}
 use Rattle.reader.specs.declared.item.Out.the-variants as out
-use Rattle.reader.specs.Judging.{foundIn, entriesOf, Fair, partOf, isKnown, freshOf, Entered, known, full, entered}
+use Rattle.reader.specs.Judging.{foundIn, entriesOf, partOf, isKnown, freshOf, Entered, known, full, entered}
 use Rattle.reader.proofs.Entries.{entries-more}
 
 pub found-packed : (s : List ℕ) {e start side len kind : ℕ} → Packed e start side len kind → foundIn s e ≡ partOf s kind start len

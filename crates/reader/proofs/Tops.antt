@@ -8,7 +8,7 @@ use lib.Dec.{eqb}
 use lib.ListN.{length, drop, replicate}
 use Rattle.format.specs.declared.error.Error.{Error}
 use Rattle.format.specs.declared.error.Error.the-variants.{Truncated, TooLong}
-use Rattle.format.specs.Choice.{pick, _||_}
+use Rattle.format.specs.Choice.{_||_}
 use Rattle.format.specs.Limits.{max-bytes, max-rows, max-depth}
 use Rattle.format.specs.Error.{codeOf}
 use Rattle.format.specs.Answer.{Answer, good, fail, then}

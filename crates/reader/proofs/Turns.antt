@@ -2,15 +2,15 @@
 use mathlib.Core.Path.{_≡_, refl, ap, sym, subst, _∙_}
 use mathlib.Core.Logic.{_≢_}
 use mathlib.Core.Bool.{Bool, true, false}
-use mathlib.Core.List.{List, [], _∷_}
+use mathlib.Core.List.{List, _∷_}
 use Prim.Native.Nat.{ℕ, zero, suc, _+_, _-_, _≤_, _<_, min}
 use native.Mathlib.Omega.{arith}
-use lib.Dec.{ltb, eqb}
+use lib.Dec.{eqb}
 use lib.ListN.{length, drop}
 use Rattle.format.specs.declared.error.Error.{Error}
 use Rattle.format.specs.declared.error.Error.the-variants.{TooManyRows, Truncated}
 use Rattle.format.specs.declared.header.FieldCount.{FieldCount}
-use Rattle.format.specs.Choice.{pick, _||_}
+use Rattle.format.specs.Choice.{_||_}
 use Rattle.format.specs.Limits.{max-rows, max-depth}
 use Rattle.format.specs.Error.{codeOf}
 use Rattle.format.specs.Answer.{Answer, fail}

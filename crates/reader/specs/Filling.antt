@@ -1,6 +1,6 @@
 -- The second pass of reading: the row of the next item, and the table after it. Lengths and counts are clamped where the code has to be safe
 -- without knowing that the bundle reads; in one that does the clamps change nothing.
-use Prim.Native.Nat.{ℕ, zero, suc, _+_, _-_, _*_, _/_, _%_, _^_, min}
+use Prim.Native.Nat.{ℕ, zero, suc, _+_, _-_, _*_, _^_, min}
 use mathlib.Core.List.{List, [], _∷_}
 use mathlib.Core.Option.{Option, none, some}
 use lib.Dec.{leb, ltb, eqb}

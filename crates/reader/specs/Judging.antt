@@ -1,14 +1,13 @@
 -- How offsets, counts and the packed table stand for the state of `Reading`, and what the answers for one item mean.
 use mathlib.Core.Path.{_≡_}
 use mathlib.Core.Logic.{_≢_}
-use mathlib.Core.Bool.{Bool, true, false, not}
+use mathlib.Core.Bool.{Bool, true, false}
 use mathlib.Core.List.{List, [], _∷_, _++_, map}
-use mathlib.Core.Option.{Option, none, some}
 use Prim.Native.Nat.{ℕ, _+_, _-_, _≤_, _<_, min}
 use lib.Dec.{leb, eqb}
 use lib.ListN.{length, take, drop}
 use Rattle.format.specs.declared.header.Header.{Header}
-use Rattle.format.specs.declared.error.Error.the-variants.{NotCanonical, TooManyEntries, TooManyRows}
+use Rattle.format.specs.declared.error.Error.the-variants.{NotCanonical, TooManyEntries}
 use Rattle.format.specs.Choice.{pick, _&&_, _||_}
 use Rattle.format.specs.Limits.{max-rows}
 use Rattle.format.specs.Error.{codeOf}

@@ -8,8 +8,6 @@ use Rattle.nachricht.specs.Answers.{countsAnswer}
 use borrow.Author.Needs.{needs}
 use Rattle.nachricht.proofs.nachricht_check.Statement.{statement}
 use Rattle.nachricht.proofs.nachricht_check.Tie as tie
-use Rattle.nachricht.proofs.nachricht_check.Reads as reads
-use Rattle.nachricht.proofs.nachricht_check.Lts as lts
 use Rattle.format.proofs.error.Error.code.Reads as code-reads
 use Rattle.nachricht.proofs.mode_of.Reads as mode-of-reads
 use Rattle.reader.proofs.check_in.Reads as check-in-reads

@@ -1,24 +1,20 @@
-use mathlib.Core.Path.{_≡_, ap, _∙_}
+-- `check` is `check_in`, leniently. Assumes nothing.
+use mathlib.Core.Path.{ap, _∙_}
 use Rattle.format.specs.declared.error.Mode.{Mode}
 use Rattle.format.specs.Limits.{max-rows}
 use Rattle.format.specs.Reading.{options, counts}
 use borrow.Author.Needs.{needs}
 use Rattle.reader.proofs.checking.check.Statement.{statement}
 use Rattle.reader.proofs.checking.check.Tie as tie
-use Rattle.reader.proofs.checking.check.Reads as reads
-use Rattle.reader.proofs.checking.check.Lts as lts
 use Rattle.format.proofs.error.Mode.default.Reads as default-reads
 use Rattle.reader.proofs.checking.check_in.Reads as check-in-reads
 
--- src/checking.rt:64:21
 default-requires : tie.Need-default-requires
 default-requires c κs = search needs
 
--- src/checking.rt:64:5
 check-in-requires : tie.Need-check-in-requires
 check-in-requires c κs = search needs
 
--- src/checking.rt:61:1
 returns : tie.Need-returns
 returns c = c .check-in .ensures ∙ ap (λ (m : Mode). counts (options m max-rows) (c .before .before .before .args .bytes .now)) (c .before .default .ensures)
 

@@ -1,16 +1,13 @@
+-- `check_in` counts with the most rows that there may be. Assumes nothing.
 use mathlib.Core.Path.{refl}
 use borrow.Author.Needs.{needs}
 use Rattle.reader.proofs.checking.check_in.Statement.{statement}
 use Rattle.reader.proofs.checking.check_in.Tie as tie
-use Rattle.reader.proofs.checking.check_in.Reads as reads
-use Rattle.reader.proofs.checking.check_in.Lts as lts
 use Rattle.reader.proofs.checking.walk.Reads as walk-reads
 
--- src/checking.rt:70:5
 walk-requires : tie.Need-walk-requires
 walk-requires c κs = search needs
 
--- src/checking.rt:67:1
 returns : tie.Need-returns
 returns c = c .walk .ensures _ refl
 

@@ -1,6 +1,7 @@
+-- `walk` counts what reading counts: more fields are asked for than there are bytes, so the bytes end first. Assumes nothing.
 use native.Mathlib.Omega.{arith}
-use mathlib.Core.Path.{_≡_, refl, sym, _∙_}
-use Prim.Native.Nat.{_+_, _-_, _≤_, min}
+use mathlib.Core.Path.{_≡_, sym}
+use Prim.Native.Nat.{min}
 use Rattle.format.specs.Limits.{max-rows}
 use Rattle.format.specs.Reading.{options, start}
 use Rattle.format.proofs.Tests.{eqb-yes, eqb-no}
@@ -8,56 +9,42 @@ use Rattle.reader.proofs.Tops.{fair-start, stands-start, row-start, out
 use borrow.Author.Needs.{needs}
 use Rattle.reader.proofs.checking.walk.Statement.{statement}
 use Rattle.reader.proofs.checking.walk.Tie as tie
-use Rattle.reader.proofs.checking.walk.Reads as reads
-use Rattle.reader.proofs.checking.walk.Lts as lts
 use Rattle.format.proofs.error.Mode.is_strict.Reads as is-strict-reads
 use Rattle.reader.proofs.fields.fields.Reads as fields-reads
 
--- src/checking.rt:28:9
 returns : tie.Need-returns
 returns c = λ n m. too-long (options (c .before .before .args .mode) n) _ (c .if1 .taken)
 
--- src/checking.rt:32:9
 is-strict-requires : tie.Need-is-strict-requires
 is-strict-requires c κs = search needs
 
--- src/checking.rt:34:11
 fields-requires : tie.Need-fields-requires
 fields-requires c κs = (omega arith, c .before .before .before .if1 .left, fair-start _ _)
 
--- src/checking.rt:45:19
 enum-known-k : tie.Need-enum-known-k
 enum-known-k c = search needs
 
--- src/checking.rt:46:19
 enum-known-left : tie.Need-enum-known-left
 enum-known-left c = search needs
 
--- src/checking.rt:48:17
 returns-2 : tie.Need-returns-2
 returns-2 c = let w = rw (c .before .before .before .left .given .1) at (c .before .before .before .before .before .fields .ensures .0) in λ n m. let r = rw (c .before .before .before .left .given .1) at (c .before .before .before .before .before .fields .ensures .1 (outside 16385) (options (c .before .before .before .before .before .before .before .before .before .before .before .args .mode) n) start (sym (c .before .before .before .before .before .before .before .before .is-strict .ensures)) (outside-lane 16385) (stands-start _ _) (row-start (options (c .before .before .before .before .before .before .before .before .before .before .before .args .mode) n) (c .before .before .before .before .before .before .before .before .before .before .before .args .most) m) top-place) in top-keyed (options (c .before .before .before .before .before .before .before .before .before .before .before .args .mode) n) (c .before .before .before .before .before .before .before .before .before .before .before .args .bytes .now) (c .before .before .before .before .before .before .before .before .before .if1 .left) r (w .1) (eqb-yes (c .if2 .taken))
 
--- src/checking.rt:51:23
 sub-t22 : tie.Need-sub-t22
 sub-t22 c = let most : min max-rows (c .before .before .before .before .before .before .before .before .before .before .before .before .args .most) ≡ c .before .before .before .before .before .before .before .before .before .before .before .before .args .most = omega (arith, c .before .before .before .before .before .before .before .before .before .before .before .before .pre) in let r = rw (c .before .before .before .before .left .given .1) at (c .before .before .before .before .before .before .fields .ensures .1 (outside 16385) (options (c .before .before .before .before .before .before .before .before .before .before .before .before .args .mode) (c .before .before .before .before .before .before .before .before .before .before .before .before .args .most)) start (sym (c .before .before .before .before .before .before .before .before .before .is-strict .ensures)) (outside-lane 16385) (stands-start _ _) (row-start (options (c .before .before .before .before .before .before .before .before .before .before .before .before .args .mode) (c .before .before .before .before .before .before .before .before .before .before .before .before .args .most)) (c .before .before .before .before .before .before .before .before .before .before .before .before .args .most) most) top-place) in omega (arith, r .row)
 
--- src/checking.rt:53:26
 sub-t23 : tie.Need-sub-t23
 sub-t23 c = let w = rw (c .before .before .before .before .left .given .1) at (c .before .before .before .before .before .before .fields .ensures .0) in w .3
 
--- src/checking.rt:56:20
 enum-known-u : tie.Need-enum-known-u
 enum-known-u c = search needs
 
--- src/checking.rt:23:1
 returns-3 : tie.Need-returns-3
 returns-3 c = λ n m. top-failed (options (c .before .before .before .before .before .before .before .before .before .args .mode) n) (c .before .before .before .before .before .before .before .before .before .args .bytes .now) (c .before .before .before .before .before .before .before .if1 .left) (c .before .k .given .0 .0) (c .before .k .given .0 .1 .0) (rw (c .before .k .given .1) at (c .before .before .before .fields .ensures .1 (outside 16385) (options (c .before .before .before .before .before .before .before .before .before .args .mode) n) start (sym (c .before .before .before .before .before .before .is-strict .ensures)) (outside-lane 16385) (stands-start _ _) (row-start (options (c .before .before .before .before .before .before .before .before .before .args .mode) n) (c .before .before .before .before .before .before .before .before .before .args .most) m) top-place))
 
--- src/checking.rt:23:1
 returns-4 : tie.Need-returns-4
 returns-4 c = let w = rw (c .before .before .before .before .left .given .1) at (c .before .before .before .before .before .before .fields .ensures .0) in λ n m. let r = rw (c .before .before .before .before .left .given .1) at (c .before .before .before .before .before .before .fields .ensures .1 (outside 16385) (options (c .before .before .before .before .before .before .before .before .before .before .before .before .args .mode) n) start (sym (c .before .before .before .before .before .before .before .before .before .is-strict .ensures)) (outside-lane 16385) (stands-start _ _) (row-start (options (c .before .before .before .before .before .before .before .before .before .before .before .before .args .mode) n) (c .before .before .before .before .before .before .before .before .before .before .before .before .args .most) m) top-place) in top-good (options (c .before .before .before .before .before .before .before .before .before .before .before .before .args .mode) n) (c .before .before .before .before .before .before .before .before .before .before .before .before .args .bytes .now) (c .before .before .before .before .before .before .before .before .before .before .if1 .left) r (w .1) (c .before .before .before .before .before .before .before .before .before .before .before .before .args .most) m (w .0 .size) (w .0 .few) (eqb-no (c .before .if2 .left))
 
--- src/checking.rt:23:1
 returns-5 : tie.Need-returns-5
 returns-5 c = let w = rw (c .before .u .given .1) at (c .before .before .before .fields .ensures .0) in absurd (omega (arith, w .1, w .2, c .before .before .before .before .before .before .before .if1 .left))
 

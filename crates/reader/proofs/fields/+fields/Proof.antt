@@ -1,7 +1,8 @@
+-- `fields` resumes the run: each turn of its loop is a turn of `Turns`, and the bytes that are left fall. Assumes nothing.
 use native.Mathlib.Omega.{arith}
-use mathlib.Core.Path.{_≡_, refl, sym, ap, _∙_}
+use mathlib.Core.Path.{_≡_, refl, ap, _∙_}
 use mathlib.Core.Bool.{Bool, false}
-use Prim.Native.Nat.{_+_, _-_, _≤_, min}
+use Prim.Native.Nat.{_+_, _-_, min}
 use lib.Dec.{eqb}
 use lib.ListN.{length}
 use borrow.Author.Needs.{needs}
@@ -39,7 +40,6 @@ fields-Inv-loop s strict depth from known free entries₀ links₀ at₀ names�
 abbrev fields-μ-loop : fields-lts.MeasureT-loop
 fields-μ-loop s strict depth from known free entries₀ links₀ at₀ names₀ rows₀ keyed₀ left₀ entries links at names rows keyed left = length s - at
 
--- src/fields.rt:54:5
 fields-loop-holds : (t : ℕ) → fields-lts.Need-loop-holds (
   one-reads.Asked,
   one-reads.Learnt,
@@ -48,7 +48,6 @@ fields-loop-holds : (t : ℕ) → fields-lts.Need-loop-holds (
 ) (fields-at t) fields.Post fields-Inv-loop fields-μ-loop
 fields-loop-holds t c = (record { fair = c .before .pre .1 .2; within = c .before .pre .1 .0; back = omega arith; most = omega arith; rest = λ _. refl }, λ Q o a so l h f e. start-field Q _ a h f e)
 
--- src/fields.rt:56:13
 fields-returns : (t : ℕ) → fields-lts.Need-returns (
   one-reads.Asked,
   one-reads.Learnt,
@@ -57,7 +56,6 @@ fields-returns : (t : ℕ) → fields-lts.Need-returns (
 ) (fields-at t) fields.Post fields-Inv-loop fields-μ-loop
 fields-returns t c = ((c .before .before .loop .inv .0 .fair, c .if1 .taken, c .before .loop-test .taken, c .before .before .loop .inv .0 .most), λ Q o a so l h f e. c .before .before .loop .inv .1 Q o a so l h f e)
 
--- src/fields.rt:66:15
 fields-one-requires : (t : ℕ) → fields-lts.Need-one-requires (
   one-reads.Asked,
   one-reads.Learnt,
@@ -66,7 +64,6 @@ fields-one-requires : (t : ℕ) → fields-lts.Need-one-requires (
 ) (fields-at t) fields.Post fields-Inv-loop fields-μ-loop
 fields-one-requires t c κs = (c .before .before .before .before .loop .inv .0 .within, c .before .before .before .before .before .before .pre .1 .1, c .before .before .before .before .loop .inv .0 .fair)
 
--- src/fields.rt:67:22
 fields-enum-known-k : (t : ℕ) → fields-lts.Need-enum-known-k (
   one-reads.Asked,
   one-reads.Learnt,
@@ -75,7 +72,6 @@ fields-enum-known-k : (t : ℕ) → fields-lts.Need-enum-known-k (
 ) (fields-at t) fields.Post fields-Inv-loop fields-μ-loop
 fields-enum-known-k t c = search needs
 
--- src/fields.rt:68:17
 fields-returns-2 : (t : ℕ) → fields-lts.Need-returns-2 (
   one-reads.Asked,
   one-reads.Learnt,
@@ -84,7 +80,6 @@ fields-returns-2 : (t : ℕ) → fields-lts.Need-returns-2 (
 ) (fields-at t) fields.Post fields-Inv-loop fields-μ-loop
 fields-returns-2 t c = (tt, λ Q o a so l h f e. field-bad Q _ _ (c .before .before .before .before .before .before .before .before .loop .left) l (c .before .before .before .before .before .before .before .loop-test .taken) (c .before .before .before .before .before .before .before .before .loop .inv .0 .most) (c .before .before .before .before .before .before .before .before .loop .inv .1 Q o a so l h f e) (c .before .before .before .before .before .before .if1 .left) _ _ (λ b. c .before .before .before .one .ensures .1 o b so) _ (c .before .k .given .1))
 
--- src/fields.rt:70:24
 fields-enum-known-u : (t : ℕ) → fields-lts.Need-enum-known-u (
   one-reads.Asked,
   one-reads.Learnt,
@@ -93,7 +88,6 @@ fields-enum-known-u : (t : ℕ) → fields-lts.Need-enum-known-u (
 ) (fields-at t) fields.Post fields-Inv-loop fields-μ-loop
 fields-enum-known-u t c = search needs
 
--- src/fields.rt:72:21
 fields-returns-3 : (t : ℕ) → fields-lts.Need-returns-3 (
   one-reads.Asked,
   one-reads.Learnt,
@@ -102,7 +96,6 @@ fields-returns-3 : (t : ℕ) → fields-lts.Need-returns-3 (
 ) (fields-at t) fields.Post fields-Inv-loop fields-μ-loop
 fields-returns-3 t c = (tt, λ Q o a so l h f e. field-full Q _ _ (c .before .before .before .before .before .before .before .before .before .loop .left) l (c .before .before .before .before .before .before .before .before .loop-test .taken) (c .before .before .before .before .before .before .before .before .before .loop .inv .0 .most) (c .before .before .before .before .before .before .before .before .before .loop .inv .1 Q o a so l h f e) (c .before .before .before .before .before .before .before .if1 .left) _ _ (λ b. c .before .before .before .before .one .ensures .1 o b so) _ (c .before .before .u .given .1) refl (c .if2 .taken))
 
--- src/fields.rt:75:17
 fields-sub-rows : (t : ℕ) → fields-lts.Need-sub-rows (
   one-reads.Asked,
   one-reads.Learnt,
@@ -111,7 +104,6 @@ fields-sub-rows : (t : ℕ) → fields-lts.Need-sub-rows (
 ) (fields-at t) fields.Post fields-Inv-loop fields-μ-loop
 fields-sub-rows t c = omega (arith, c .if2 .left)
 
--- src/fields.rt:77:17
 fields-sub-left : (t : ℕ) → fields-lts.Need-sub-left (
   one-reads.Asked,
   one-reads.Learnt,
@@ -120,7 +112,6 @@ fields-sub-left : (t : ℕ) → fields-lts.Need-sub-left (
 ) (fields-at t) fields.Post fields-Inv-loop fields-μ-loop
 fields-sub-left t c = search needs
 
--- src/fields.rt:54:5
 fields-loop-less : (t : ℕ) → fields-lts.Need-loop-less (
   one-reads.Asked,
   one-reads.Learnt,
@@ -129,7 +120,6 @@ fields-loop-less : (t : ℕ) → fields-lts.Need-loop-less (
 ) (fields-at t) fields.Post fields-Inv-loop fields-μ-loop
 fields-loop-less t c = let g = rw (c .before .before .u .given .1) at (c .before .before .before .before .one .ensures .0) in omega (arith, g .on, g .within)
 
--- src/fields.rt:54:5
 fields-loop-again : (t : ℕ) → fields-lts.Need-loop-again (
   one-reads.Asked,
   one-reads.Learnt,
@@ -138,7 +128,6 @@ fields-loop-again : (t : ℕ) → fields-lts.Need-loop-again (
 ) (fields-at t) fields.Post fields-Inv-loop fields-μ-loop
 fields-loop-again t c = let g = rw (c .before .before .u .given .1) at (c .before .before .before .before .one .ensures .0) in (along-value (c .before .before .before .before .before .before .before .before .before .loop .inv .0) (c .before .before .before .before .before .before .before .before .loop-test .taken) g, λ Q o a so l h f e. field-value Q _ _ (c .before .before .before .before .before .before .before .before .before .loop .left) l (c .before .before .before .before .before .before .before .before .loop-test .taken) (c .before .before .before .before .before .before .before .before .before .loop .inv .0 .most) (c .before .before .before .before .before .before .before .before .before .loop .inv .1 Q o a so l h f e) (c .before .before .before .before .before .before .before .if1 .left) _ _ (λ b. c .before .before .before .before .one .ensures .1 o b so) (c .if2 .left) _ (c .before .before .u .given .1))
 
--- src/fields.rt:79:22
 fields-enum-known-u-2 : (t : ℕ) → fields-lts.Need-enum-known-u-2 (
   one-reads.Asked,
   one-reads.Learnt,
@@ -147,7 +136,6 @@ fields-enum-known-u-2 : (t : ℕ) → fields-lts.Need-enum-known-u-2 (
 ) (fields-at t) fields.Post fields-Inv-loop fields-μ-loop
 fields-enum-known-u-2 t c = search needs
 
--- src/fields.rt:81:21
 fields-returns-4 : (t : ℕ) → fields-lts.Need-returns-4 (
   one-reads.Asked,
   one-reads.Learnt,
@@ -156,7 +144,6 @@ fields-returns-4 : (t : ℕ) → fields-lts.Need-returns-4 (
 ) (fields-at t) fields.Post fields-Inv-loop fields-μ-loop
 fields-returns-4 t c = (tt, λ Q o a so l h f e. field-full Q _ _ (c .before .before .before .before .before .before .before .before .before .loop .left) l (c .before .before .before .before .before .before .before .before .loop-test .taken) (c .before .before .before .before .before .before .before .before .before .loop .inv .0 .most) (c .before .before .before .before .before .before .before .before .before .loop .inv .1 Q o a so l h f e) (c .before .before .before .before .before .before .before .if1 .left) _ _ (λ b. c .before .before .before .before .one .ensures .1 o b so) _ (c .before .before .u2 .given .1) refl (c .if3 .taken))
 
--- src/fields.rt:84:17
 fields-sub-rows-2 : (t : ℕ) → fields-lts.Need-sub-rows-2 (
   one-reads.Asked,
   one-reads.Learnt,
@@ -165,7 +152,6 @@ fields-sub-rows-2 : (t : ℕ) → fields-lts.Need-sub-rows-2 (
 ) (fields-at t) fields.Post fields-Inv-loop fields-μ-loop
 fields-sub-rows-2 t c = omega (arith, c .if3 .left)
 
--- src/fields.rt:54:5
 fields-loop-less-2 : (t : ℕ) → fields-lts.Need-loop-less-2 (
   one-reads.Asked,
   one-reads.Learnt,
@@ -174,7 +160,6 @@ fields-loop-less-2 : (t : ℕ) → fields-lts.Need-loop-less-2 (
 ) (fields-at t) fields.Post fields-Inv-loop fields-μ-loop
 fields-loop-less-2 t c = let g = rw (c .before .before .u2 .given .1) at (c .before .before .before .before .one .ensures .0) in omega (arith, g .on, g .within)
 
--- src/fields.rt:54:5
 fields-loop-again-2 : (t : ℕ) → fields-lts.Need-loop-again-2 (
   one-reads.Asked,
   one-reads.Learnt,
@@ -183,7 +168,6 @@ fields-loop-again-2 : (t : ℕ) → fields-lts.Need-loop-again-2 (
 ) (fields-at t) fields.Post fields-Inv-loop fields-μ-loop
 fields-loop-again-2 t c = let g = rw (c .before .before .u2 .given .1) at (c .before .before .before .before .one .ensures .0) in (along-key (c .before .before .before .before .before .before .before .before .before .loop .inv .0) (c .before .before .before .before .before .before .before .before .loop-test .taken) g, λ Q o a so l h f e. field-key Q _ _ (c .before .before .before .before .before .before .before .before .before .loop .left) l (c .before .before .before .before .before .before .before .before .loop-test .taken) (c .before .before .before .before .before .before .before .before .before .loop .inv .0 .most) (c .before .before .before .before .before .before .before .before .before .loop .inv .1 Q o a so l h f e) (c .before .before .before .before .before .before .before .if1 .left) _ _ (λ b. c .before .before .before .before .one .ensures .1 o b so) (c .if3 .left) _ (c .before .before .u2 .given .1))
 
--- src/fields.rt:87:28
 fields-enum-known-u-3 : (t : ℕ) → fields-lts.Need-enum-known-u-3 (
   one-reads.Asked,
   one-reads.Learnt,
@@ -192,7 +176,6 @@ fields-enum-known-u-3 : (t : ℕ) → fields-lts.Need-enum-known-u-3 (
 ) (fields-at t) fields.Post fields-Inv-loop fields-μ-loop
 fields-enum-known-u-3 t c = search needs
 
--- src/fields.rt:89:21
 fields-returns-5 : (t : ℕ) → fields-lts.Need-returns-5 (
   one-reads.Asked,
   one-reads.Learnt,
@@ -201,7 +184,6 @@ fields-returns-5 : (t : ℕ) → fields-lts.Need-returns-5 (
 ) (fields-at t) fields.Post fields-Inv-loop fields-μ-loop
 fields-returns-5 t c = (tt, λ Q o a so l h f e. field-full Q _ _ (c .before .before .before .before .before .before .before .before .before .loop .left) l (c .before .before .before .before .before .before .before .before .loop-test .taken) (c .before .before .before .before .before .before .before .before .before .loop .inv .0 .most) (c .before .before .before .before .before .before .before .before .before .loop .inv .1 Q o a so l h f e) (c .before .before .before .before .before .before .before .if1 .left) _ _ (λ b. c .before .before .before .before .one .ensures .1 o b so) _ (c .before .before .u3 .given .1) refl (c .if4 .taken))
 
--- src/fields.rt:92:17
 fields-add-names : (t : ℕ) → fields-lts.Need-add-names (
   one-reads.Asked,
   one-reads.Learnt,
@@ -210,7 +192,6 @@ fields-add-names : (t : ℕ) → fields-lts.Need-add-names (
 ) (fields-at t) fields.Post fields-Inv-loop fields-μ-loop
 fields-add-names t c = let g = rw (c .before .before .u3 .given .1) at (c .before .before .before .before .one .ensures .0) in omega (arith, g .fair .few)
 
--- src/fields.rt:93:17
 fields-sub-rows-3 : (t : ℕ) → fields-lts.Need-sub-rows-3 (
   one-reads.Asked,
   one-reads.Learnt,
@@ -219,7 +200,6 @@ fields-sub-rows-3 : (t : ℕ) → fields-lts.Need-sub-rows-3 (
 ) (fields-at t) fields.Post fields-Inv-loop fields-μ-loop
 fields-sub-rows-3 t c = omega (arith, c .if4 .left)
 
--- src/fields.rt:95:17
 fields-sub-left-2 : (t : ℕ) → fields-lts.Need-sub-left-2 (
   one-reads.Asked,
   one-reads.Learnt,
@@ -228,7 +208,6 @@ fields-sub-left-2 : (t : ℕ) → fields-lts.Need-sub-left-2 (
 ) (fields-at t) fields.Post fields-Inv-loop fields-μ-loop
 fields-sub-left-2 t c = search needs
 
--- src/fields.rt:54:5
 fields-loop-less-3 : (t : ℕ) → fields-lts.Need-loop-less-3 (
   one-reads.Asked,
   one-reads.Learnt,
@@ -237,7 +216,6 @@ fields-loop-less-3 : (t : ℕ) → fields-lts.Need-loop-less-3 (
 ) (fields-at t) fields.Post fields-Inv-loop fields-μ-loop
 fields-loop-less-3 t c = let g = rw (c .before .before .u3 .given .1) at (c .before .before .before .before .one .ensures .0) in omega (arith, g .on, g .within)
 
--- src/fields.rt:54:5
 fields-loop-again-3 : (t : ℕ) → fields-lts.Need-loop-again-3 (
   one-reads.Asked,
   one-reads.Learnt,
@@ -246,7 +224,6 @@ fields-loop-again-3 : (t : ℕ) → fields-lts.Need-loop-again-3 (
 ) (fields-at t) fields.Post fields-Inv-loop fields-μ-loop
 fields-loop-again-3 t c = let g = rw (c .before .before .u3 .given .1) at (c .before .before .before .before .one .ensures .0) in (along-value (c .before .before .before .before .before .before .before .before .before .loop .inv .0) (c .before .before .before .before .before .before .before .before .loop-test .taken) g, λ Q o a so l h f e. field-symbol Q _ _ (c .before .before .before .before .before .before .before .before .before .loop .left) l (c .before .before .before .before .before .before .before .before .loop-test .taken) (c .before .before .before .before .before .before .before .before .before .loop .inv .0 .most) (c .before .before .before .before .before .before .before .before .before .loop .inv .1 Q o a so l h f e) (c .before .before .before .before .before .before .before .if1 .left) _ _ (λ b. c .before .before .before .before .one .ensures .1 o b so) (c .if4 .left) _ (c .before .before .u3 .given .1))
 
--- src/fields.rt:97:25
 fields-enum-known-u-4 : (t : ℕ) → fields-lts.Need-enum-known-u-4 (
   one-reads.Asked,
   one-reads.Learnt,
@@ -255,7 +232,6 @@ fields-enum-known-u-4 : (t : ℕ) → fields-lts.Need-enum-known-u-4 (
 ) (fields-at t) fields.Post fields-Inv-loop fields-μ-loop
 fields-enum-known-u-4 t c = search needs
 
--- src/fields.rt:99:21
 fields-returns-6 : (t : ℕ) → fields-lts.Need-returns-6 (
   one-reads.Asked,
   one-reads.Learnt,
@@ -264,7 +240,6 @@ fields-returns-6 : (t : ℕ) → fields-lts.Need-returns-6 (
 ) (fields-at t) fields.Post fields-Inv-loop fields-μ-loop
 fields-returns-6 t c = (tt, λ Q o a so l h f e. field-full Q _ _ (c .before .before .before .before .before .before .before .before .before .loop .left) l (c .before .before .before .before .before .before .before .before .loop-test .taken) (c .before .before .before .before .before .before .before .before .before .loop .inv .0 .most) (c .before .before .before .before .before .before .before .before .before .loop .inv .1 Q o a so l h f e) (c .before .before .before .before .before .before .before .if1 .left) _ _ (λ b. c .before .before .before .before .one .ensures .1 o b so) _ (c .before .before .u4 .given .1) refl (c .if5 .taken))
 
--- src/fields.rt:102:17
 fields-add-names-2 : (t : ℕ) → fields-lts.Need-add-names-2 (
   one-reads.Asked,
   one-reads.Learnt,
@@ -273,7 +248,6 @@ fields-add-names-2 : (t : ℕ) → fields-lts.Need-add-names-2 (
 ) (fields-at t) fields.Post fields-Inv-loop fields-μ-loop
 fields-add-names-2 t c = let g = rw (c .before .before .u4 .given .1) at (c .before .before .before .before .one .ensures .0) in omega (arith, g .fair .few)
 
--- src/fields.rt:103:17
 fields-sub-rows-4 : (t : ℕ) → fields-lts.Need-sub-rows-4 (
   one-reads.Asked,
   one-reads.Learnt,
@@ -282,7 +256,6 @@ fields-sub-rows-4 : (t : ℕ) → fields-lts.Need-sub-rows-4 (
 ) (fields-at t) fields.Post fields-Inv-loop fields-μ-loop
 fields-sub-rows-4 t c = omega (arith, c .if5 .left)
 
--- src/fields.rt:54:5
 fields-loop-less-4 : (t : ℕ) → fields-lts.Need-loop-less-4 (
   one-reads.Asked,
   one-reads.Learnt,
@@ -291,7 +264,6 @@ fields-loop-less-4 : (t : ℕ) → fields-lts.Need-loop-less-4 (
 ) (fields-at t) fields.Post fields-Inv-loop fields-μ-loop
 fields-loop-less-4 t c = let g = rw (c .before .before .u4 .given .1) at (c .before .before .before .before .one .ensures .0) in omega (arith, g .on, g .within)
 
--- src/fields.rt:54:5
 fields-loop-again-4 : (t : ℕ) → fields-lts.Need-loop-again-4 (
   one-reads.Asked,
   one-reads.Learnt,
@@ -300,7 +272,6 @@ fields-loop-again-4 : (t : ℕ) → fields-lts.Need-loop-again-4 (
 ) (fields-at t) fields.Post fields-Inv-loop fields-μ-loop
 fields-loop-again-4 t c = let g = rw (c .before .before .u4 .given .1) at (c .before .before .before .before .one .ensures .0) in (along-key (c .before .before .before .before .before .before .before .before .before .loop .inv .0) (c .before .before .before .before .before .before .before .before .loop-test .taken) g, λ Q o a so l h f e. field-new-key Q _ _ (c .before .before .before .before .before .before .before .before .before .loop .left) l (c .before .before .before .before .before .before .before .before .loop-test .taken) (c .before .before .before .before .before .before .before .before .before .loop .inv .0 .most) (c .before .before .before .before .before .before .before .before .before .loop .inv .1 Q o a so l h f e) (c .before .before .before .before .before .before .before .if1 .left) _ _ (λ b. c .before .before .before .before .one .ensures .1 o b so) (c .if5 .left) _ (c .before .before .u4 .given .1))
 
--- src/fields.rt:106:28
 fields-enum-known-n : (t : ℕ) → fields-lts.Need-enum-known-n (
   one-reads.Asked,
   one-reads.Learnt,
@@ -309,7 +280,6 @@ fields-enum-known-n : (t : ℕ) → fields-lts.Need-enum-known-n (
 ) (fields-at t) fields.Post fields-Inv-loop fields-μ-loop
 fields-enum-known-n t c = search needs
 
--- src/fields.rt:108:21
 fields-returns-7 : (t : ℕ) → fields-lts.Need-returns-7 (
   one-reads.Asked,
   one-reads.Learnt,
@@ -318,7 +288,6 @@ fields-returns-7 : (t : ℕ) → fields-lts.Need-returns-7 (
 ) (fields-at t) fields.Post fields-Inv-loop fields-μ-loop
 fields-returns-7 t c = (tt, λ Q o a so l h f e. field-full Q _ _ (c .before .before .before .before .before .before .before .before .before .loop .left) l (c .before .before .before .before .before .before .before .before .loop-test .taken) (c .before .before .before .before .before .before .before .before .before .loop .inv .0 .most) (c .before .before .before .before .before .before .before .before .before .loop .inv .1 Q o a so l h f e) (c .before .before .before .before .before .before .before .if1 .left) _ _ (λ b. c .before .before .before .before .one .ensures .1 o b so) _ (c .before .before .n .given .1) refl (c .if6 .taken))
 
--- src/fields.rt:110:41
 fields-sub-fields : (t : ℕ) → fields-lts.Need-sub-fields (
   one-reads.Asked,
   one-reads.Learnt,
@@ -327,7 +296,6 @@ fields-sub-fields : (t : ℕ) → fields-lts.Need-sub-fields (
 ) (fields-at t) fields.Post fields-Inv-loop fields-μ-loop
 fields-sub-fields t c = let g = rw (c .before .before .n .given .1) at (c .before .before .before .before .one .ensures .0) in omega (arith, g .0)
 
--- src/fields.rt:110:65
 fields-sub-fields-2 : (t : ℕ) → fields-lts.Need-sub-fields-2 (
   one-reads.Asked,
   one-reads.Learnt,
@@ -336,7 +304,6 @@ fields-sub-fields-2 : (t : ℕ) → fields-lts.Need-sub-fields-2 (
 ) (fields-at t) fields.Post fields-Inv-loop fields-μ-loop
 fields-sub-fields-2 t c = omega (arith, c .if6 .left)
 
--- src/fields.rt:110:23
 fields-fields-requires : (t : ℕ) → fields-lts.Need-fields-requires (
   one-reads.Asked,
   one-reads.Learnt,
@@ -345,7 +312,6 @@ fields-fields-requires : (t : ℕ) → fields-lts.Need-fields-requires (
 ) (fields-at t) fields.Post fields-Inv-loop fields-μ-loop
 fields-fields-requires t c κs = let g = rw (c .before .before .before .before .n .given .1) at (c .before .before .before .before .before .before .one .ensures .0) in (omega (arith, c .before .before .before .before .before .before .before .before .before .before .before .before .before .pre .0, g .2 .on, g .2 .within, c .before .before .before .before .before .before .before .before .before .before .before .loop .inv .0 .back, c .before .before .before .before .before .before .before .before .before .before .before .loop .inv .0 .most), (g .2 .within, c .before .before .before .before .before .before .before .before .before .before .before .before .before .pre .1 .1, g .2 .fair))
 
--- src/fields.rt:111:31
 fields-enum-known-k-2 : (t : ℕ) → fields-lts.Need-enum-known-k-2 (
   one-reads.Asked,
   one-reads.Learnt,
@@ -354,7 +320,6 @@ fields-enum-known-k-2 : (t : ℕ) → fields-lts.Need-enum-known-k-2 (
 ) (fields-at t) fields.Post fields-Inv-loop fields-μ-loop
 fields-enum-known-k-2 t c = search needs
 
--- src/fields.rt:112:25
 fields-returns-8 : (t : ℕ) → fields-lts.Need-returns-8 (
   one-reads.Asked,
   one-reads.Learnt,
@@ -363,7 +328,6 @@ fields-returns-8 : (t : ℕ) → fields-lts.Need-returns-8 (
 ) (fields-at t) fields.Post fields-Inv-loop fields-μ-loop
 fields-returns-8 t c = let g = rw (c .before .before .before .before .before .before .before .before .n .given .1) at (c .before .before .before .before .before .before .before .before .before .before .one .ensures .0) in (tt, λ Q o a so l h f e. field-held-bad Q _ _ (c .before .before .before .before .before .before .before .before .before .before .before .before .before .before .before .loop .left) l (c .before .before .before .before .before .before .before .before .before .before .before .before .before .before .loop-test .taken) (c .before .before .before .before .before .before .before .before .before .before .before .before .before .before .before .loop .inv .0 .most) (c .before .before .before .before .before .before .before .before .before .before .before .before .before .before .before .loop .inv .1 Q o a so l h f e) (c .before .before .before .before .before .before .before .before .before .before .before .before .before .if1 .left) _ _ (λ b. c .before .before .before .before .before .before .before .before .before .before .one .ensures .1 o b so) (c .before .before .before .before .before .before .if6 .left) _ _ (c .before .before .before .before .before .before .before .before .n .given .1) (g .0) (g .1) _ _ (λ Q b. c .before .before .before .fields .ensures .1 Q o b so) _ _ (c .before .k2 .given .1))
 
--- src/fields.rt:114:34
 fields-enum-known-v : (t : ℕ) → fields-lts.Need-enum-known-v (
   one-reads.Asked,
   one-reads.Learnt,
@@ -372,7 +336,6 @@ fields-enum-known-v : (t : ℕ) → fields-lts.Need-enum-known-v (
 ) (fields-at t) fields.Post fields-Inv-loop fields-μ-loop
 fields-enum-known-v t c = search needs
 
--- src/fields.rt:115:25
 fields-returns-9 : (t : ℕ) → fields-lts.Need-returns-9 (
   one-reads.Asked,
   one-reads.Learnt,
@@ -381,7 +344,6 @@ fields-returns-9 : (t : ℕ) → fields-lts.Need-returns-9 (
 ) (fields-at t) fields.Post fields-Inv-loop fields-μ-loop
 fields-returns-9 t c = let g = rw (c .before .before .before .before .before .before .before .before .n .given .1) at (c .before .before .before .before .before .before .before .before .before .before .one .ensures .0) in let w = rw (c .before .v .given .1) at (c .before .before .before .fields .ensures .0) in (tt, λ Q o a so l h f e. field-held-end Q _ _ (c .before .before .before .before .before .before .before .before .before .before .before .before .before .before .before .loop .left) l (c .before .before .before .before .before .before .before .before .before .before .before .before .before .before .loop-test .taken) (c .before .before .before .before .before .before .before .before .before .before .before .before .before .before .before .loop .inv .0 .most) (c .before .before .before .before .before .before .before .before .before .before .before .before .before .before .before .loop .inv .1 Q o a so l h f e) (c .before .before .before .before .before .before .before .before .before .before .before .before .before .if1 .left) _ _ (λ b. c .before .before .before .before .before .before .before .before .before .before .one .ensures .1 o b so) (c .before .before .before .before .before .before .if6 .left) _ _ (c .before .before .before .before .before .before .before .before .n .given .1) (g .0) (g .1) _ _ (λ Q b. c .before .before .before .fields .ensures .1 Q o b so) _ _ (c .before .v .given .1) (w .2) (w .1))
 
--- src/fields.rt:117:32
 fields-enum-known-v-2 : (t : ℕ) → fields-lts.Need-enum-known-v-2 (
   one-reads.Asked,
   one-reads.Learnt,
@@ -390,7 +352,6 @@ fields-enum-known-v-2 : (t : ℕ) → fields-lts.Need-enum-known-v-2 (
 ) (fields-at t) fields.Post fields-Inv-loop fields-μ-loop
 fields-enum-known-v-2 t c = search needs
 
--- src/fields.rt:122:25
 fields-sub-left-3 : (t : ℕ) → fields-lts.Need-sub-left-3 (
   one-reads.Asked,
   one-reads.Learnt,
@@ -399,7 +360,6 @@ fields-sub-left-3 : (t : ℕ) → fields-lts.Need-sub-left-3 (
 ) (fields-at t) fields.Post fields-Inv-loop fields-μ-loop
 fields-sub-left-3 t c = search needs
 
--- src/fields.rt:54:5
 fields-loop-less-5 : (t : ℕ) → fields-lts.Need-loop-less-5 (
   one-reads.Asked,
   one-reads.Learnt,
@@ -408,7 +368,6 @@ fields-loop-less-5 : (t : ℕ) → fields-lts.Need-loop-less-5 (
 ) (fields-at t) fields.Post fields-Inv-loop fields-μ-loop
 fields-loop-less-5 t c = let g = rw (c .before .before .before .before .before .before .before .before .n .given .1) at (c .before .before .before .before .before .before .before .before .before .before .one .ensures .0) in let w = rw (c .before .v2 .given .1) at (c .before .before .before .fields .ensures .0) in omega (arith, g .2 .on, g .2 .within, w .1, w .2)
 
--- src/fields.rt:54:5
 fields-loop-again-5 : (t : ℕ) → fields-lts.Need-loop-again-5 (
   one-reads.Asked,
   one-reads.Learnt,
@@ -417,7 +376,6 @@ fields-loop-again-5 : (t : ℕ) → fields-lts.Need-loop-again-5 (
 ) (fields-at t) fields.Post fields-Inv-loop fields-μ-loop
 fields-loop-again-5 t c = let g = rw (c .before .before .before .before .before .before .before .before .n .given .1) at (c .before .before .before .before .before .before .before .before .before .before .one .ensures .0) in let w = rw (c .before .v2 .given .1) at (c .before .before .before .fields .ensures .0) in (along-held (c .before .before .before .before .before .before .before .before .before .before .before .before .before .before .before .loop .inv .0) (c .before .before .before .before .before .before .before .before .before .before .before .before .before .before .loop-test .taken) _ (g .2) (w .0) (w .1) (w .2), λ Q o a so l h f e. field-held-good Q _ _ (c .before .before .before .before .before .before .before .before .before .before .before .before .before .before .before .loop .left) l (c .before .before .before .before .before .before .before .before .before .before .before .before .before .before .loop-test .taken) (c .before .before .before .before .before .before .before .before .before .before .before .before .before .before .before .loop .inv .0 .most) (c .before .before .before .before .before .before .before .before .before .before .before .before .before .before .before .loop .inv .1 Q o a so l h f e) (c .before .before .before .before .before .before .before .before .before .before .before .before .before .if1 .left) _ _ (λ b. c .before .before .before .before .before .before .before .before .before .before .one .ensures .1 o b so) (c .before .before .before .before .before .before .if6 .left) _ _ (c .before .before .before .before .before .before .before .before .n .given .1) (g .0) (g .1) _ _ (λ Q b. c .before .before .before .fields .ensures .1 Q o b so) _ (c .before .v2 .given .1) (w .3))
 
--- src/fields.rt:32:1
 fields-returns-10 : (t : ℕ) → fields-lts.Need-returns-10 (
   one-reads.Asked,
   one-reads.Learnt,

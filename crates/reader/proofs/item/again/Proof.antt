@@ -1,16 +1,13 @@
+-- `again` tells a key after a key. Assumes nothing.
 use Rattle.format.specs.Choice.{_&&_}
 use Rattle.format.proofs.Tests.{eqb-yes, eqb-no}
 use Rattle.reader.proofs.item.again.Statement.{statement}
 use Rattle.reader.proofs.item.again.Tie as tie
-use Rattle.reader.proofs.item.again.Reads as reads
-use Rattle.reader.proofs.item.again.Lts as lts
 
--- src/item.rt:140:9
 returns : tie.Need-returns
 unfolding _&&_
 returns c = rw (eqb-no (c .if1 .taken))
 
--- src/item.rt:136:1
 returns-2 : tie.Need-returns-2
 unfolding _&&_
 returns-2 c = rw (eqb-yes (c .if1 .left))

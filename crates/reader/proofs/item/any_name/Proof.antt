@@ -1,54 +1,42 @@
+-- `any_name` enters a name unseen. Assumes nothing.
 use native.Mathlib.Omega.{arith}
 use mathlib.Core.Path.{refl}
 use Rattle.reader.proofs.NameEntry.{plain-full, plain-entered}
 use borrow.Author.Needs.{needs}
 use Rattle.reader.proofs.item.any_name.Statement.{statement}
 use Rattle.reader.proofs.item.any_name.Tie as tie
-use Rattle.reader.proofs.item.any_name.Reads as reads
-use Rattle.reader.proofs.item.any_name.Lts as lts
 use Rattle.reader.proofs.item.fresh.Reads as fresh-reads
 
--- src/item.rt:185:9
 returns : tie.Need-returns
 returns c = λ s links l f. plain-full s (c .before .args .entries .now) _ _ _ _ (c .before .pre .0) (c .before .pre .1) (c .before .pre .2) (c .before .pre .3) (f .size) links (omega arith) refl
 
--- src/item.rt:187:22
 mul-entries : tie.Need-mul-entries
 mul-entries c = search needs
 
--- src/item.rt:187:56
 sub-entries : tie.Need-sub-entries
 sub-entries c = search needs
 
--- src/item.rt:187:55
 mul-entries-2 : tie.Need-mul-entries-2
 mul-entries-2 c = search needs
 
--- src/item.rt:187:80
 sub-entries-2 : tie.Need-sub-entries-2
 sub-entries-2 c = search needs
 
--- src/item.rt:187:55
 add-entries : tie.Need-add-entries
 add-entries c = search needs
 
--- src/item.rt:187:22
 add-entries-2 : tie.Need-add-entries-2
 add-entries-2 c = search needs
 
--- src/item.rt:187:5
 mul-entries-3 : tie.Need-mul-entries-3
 mul-entries-3 c = search needs
 
--- src/item.rt:187:5
 element-write-entries : tie.Need-element-write-entries
 element-write-entries c = search needs
 
--- src/item.rt:188:5
 fresh-requires : tie.Need-fresh-requires
 fresh-requires c κs = search needs
 
--- src/item.rt:173:1
 returns-2 : tie.Need-returns-2
 returns-2 c = λ s links l f. plain-entered s (c .before .before .args .entries .now) _ _ _ _ (c .before .before .pre .0) (c .before .before .pre .1) (c .before .before .pre .2) (c .before .before .pre .3) (f .size) links (omega arith) (c .fresh .ensures)
 

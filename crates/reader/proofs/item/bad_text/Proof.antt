@@ -1,22 +1,18 @@
+-- `bad_text` is asked of strings only. Assumes nothing.
 use Rattle.format.specs.Choice.{_&&_}
 use Rattle.format.proofs.Tests.{eqb-yes, eqb-no}
 use borrow.Author.Needs.{needs}
 use Rattle.reader.proofs.item.bad_text.Statement.{statement}
 use Rattle.reader.proofs.item.bad_text.Tie as tie
-use Rattle.reader.proofs.item.bad_text.Reads as reads
-use Rattle.reader.proofs.item.bad_text.Lts as lts
 use Rattle.wire.proofs.utf8.is_utf8.Reads as is-utf8-reads
 
--- src/item.rt:101:17
 is-utf8-requires : tie.Need-is-utf8-requires
 is-utf8-requires c κs = search needs
 
--- src/item.rt:101:9
 returns : tie.Need-returns
 unfolding _&&_
 returns c = rw (eqb-yes (c .before .if1 .taken), c .is-utf8 .ensures)
 
--- src/item.rt:97:1
 returns-2 : tie.Need-returns-2
 unfolding _&&_
 returns-2 c = rw (eqb-no (c .if1 .left))

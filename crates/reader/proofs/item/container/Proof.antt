@@ -1,26 +1,21 @@
+-- `container` judges a container by its depth. Assumes nothing.
 use native.Mathlib.Omega.{arith}
 use mathlib.Core.Path.{sym, _∙_}
 use Rattle.reader.proofs.Flat.{container-deep, container-empty, container-held}
 use borrow.Author.Needs.{needs}
 use Rattle.reader.proofs.item.container.Statement.{statement}
 use Rattle.reader.proofs.item.container.Tie as tie
-use Rattle.reader.proofs.item.container.Reads as reads
-use Rattle.reader.proofs.item.container.Lts as lts
 use Rattle.format.proofs.header.FieldCount.of.Reads as of-reads
 
--- src/item.rt:64:9
 returns : tie.Need-returns
 returns c = (λ strict s es links at names m. tt, λ s es o a bs at names keyed cs d. container-deep bs cs (c .before .pre) (omega arith))
 
--- src/item.rt:66:9
 of-requires : tie.Need-of-requires
 of-requires c κs = search needs
 
--- src/item.rt:69:9
 returns-2 : tie.Need-returns-2
 returns-2 c = (λ strict s es links at names m. m, λ s es o a bs at names keyed cs d. container-empty bs cs (c .before .before .before .pre) (omega arith) (sym (c .before .of .ensures) ∙ c .if2 .taken))
 
--- src/item.rt:57:1
 returns-3 : tie.Need-returns-3
 returns-3 c = (λ strict s es links at names m. (omega arith, omega (arith, c .if2 .left), m), λ s es o a bs at names keyed cs d. container-held bs cs (c .before .before .before .pre) (omega arith) (c .before .of .result) (c .before .of .ensures) (λ z. c .if2 .left (c .before .of .ensures ∙ z)))
 

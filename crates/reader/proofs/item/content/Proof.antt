@@ -1,51 +1,40 @@
+-- `content` judges bytes and strings. Assumes nothing.
 use native.Mathlib.Omega.{arith}
-use mathlib.Core.Path.{sym, _∙_}
+use mathlib.Core.Path.{_∙_}
 use Rattle.reader.proofs.Contents.{content-cut, content-text, content-value, body-key, body-text}
 use borrow.Author.Needs.{needs}
 use Rattle.reader.proofs.item.content.Statement.{statement}
 use Rattle.reader.proofs.item.content.Tie as tie
-use Rattle.reader.proofs.item.content.Reads as reads
-use Rattle.reader.proofs.item.content.Lts as lts
 use Rattle.format.proofs.header.ByteLength.of.Reads as of-reads
 use Rattle.reader.proofs.item.bad_text.Reads as bad-text-reads
 
--- src/item.rt:113:9
 of-requires : tie.Need-of-requires
 of-requires c κs = search needs
 
--- src/item.rt:115:10
 sub-if1 : tie.Need-sub-if1
 sub-if1 c = search needs
 
--- src/item.rt:116:9
 returns : tie.Need-returns
 returns c = (λ strict es links at names depth m. tt, λ es o a at names keyed cs. content-cut cs _ (c .before .of .ensures) _ (c .before .before .before .pre .0 .form) (c .before .before .before .pre .0 .plain) (body-key (c .before .before .before .args .s .now) (c .before .before .before .args .next) _ keyed (c .before .before .before .pre .0)) (c .if1 .taken))
 
--- src/item.rt:118:13
 add-e : tie.Need-add-e
 add-e c = search needs
 
--- src/item.rt:119:25
 sub-bad-text : tie.Need-sub-bad-text
 sub-bad-text c = search needs
 
--- src/item.rt:119:25
 part-bad-text-start : tie.Need-part-bad-text-start
 part-bad-text-start c = search needs
 
--- src/item.rt:119:25
 part-bad-text-end : tie.Need-part-bad-text-end
 part-bad-text-end c = search needs
 
--- src/item.rt:119:8
 bad-text-requires : tie.Need-bad-text-requires
 bad-text-requires c κs = search needs
 
--- src/item.rt:120:9
 returns-2 : tie.Need-returns-2
 returns-2 c = (λ strict es links at names depth m. tt, λ es o a at names keyed cs. content-text cs _ (c .before .before .before .before .of .ensures) _ (c .before .before .before .before .before .before .pre .0 .form) (c .before .before .before .before .before .before .pre .0 .plain) (body-key (c .before .before .before .before .before .before .args .s .now) (c .before .before .before .before .before .before .args .next) _ keyed (c .before .before .before .before .before .before .pre .0)) (c .before .before .before .if1 .left) (body-text (c .before .before .before .before .before .before .args .s .now) (c .before .before .before .before .before .before .args .next) _ (c .before .before .before .before .before .before .pre .0) (c .before .bad-text .ensures) ∙ c .if2 .taken))
 
--- src/item.rt:107:1
 returns-3 : tie.Need-returns-3
 returns-3 c = (λ strict es links at names depth m. record { on = omega (arith, m .on); within = omega arith; fair = m .fair }, λ es o a at names keyed cs. content-value cs _ (c .before .before .before .before .of .ensures) _ (c .before .before .before .before .before .before .pre .0 .form) (c .before .before .before .before .before .before .pre .0 .plain) (body-key (c .before .before .before .before .before .before .args .s .now) (c .before .before .before .before .before .before .args .next) _ keyed (c .before .before .before .before .before .before .pre .0)) (c .before .before .before .if1 .left) (body-text (c .before .before .before .before .before .before .args .s .now) (c .before .before .before .before .before .before .args .next) _ (c .before .before .before .before .before .before .pre .0) (c .before .bad-text .ensures) ∙ c .if2 .left) (c .before .before .before .before .before .before .pre .0 .low))
 

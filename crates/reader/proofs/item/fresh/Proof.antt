@@ -1,17 +1,14 @@
+-- `fresh` is its definition. Assumes nothing.
 use Rattle.format.specs.Choice.{pick}
 use Rattle.format.proofs.Tests.{eqb-yes, eqb-no}
 use Rattle.reader.specs.Judging.{freshOf}
 use Rattle.reader.proofs.item.fresh.Statement.{statement}
 use Rattle.reader.proofs.item.fresh.Tie as tie
-use Rattle.reader.proofs.item.fresh.Reads as reads
-use Rattle.reader.proofs.item.fresh.Lts as lts
 
--- src/item.rt:130:9
 returns : tie.Need-returns
 unfolding freshOf pick
 returns c = rw (eqb-yes (c .if1 .taken))
 
--- src/item.rt:126:1
 returns-2 : tie.Need-returns-2
 unfolding freshOf pick
 returns-2 c = rw (eqb-no (c .if1 .left))

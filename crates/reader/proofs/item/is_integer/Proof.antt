@@ -1,16 +1,13 @@
+-- `is_integer` is a range of codes. Assumes nothing.
 use Rattle.format.specs.Choice.{_&&_}
 use Rattle.format.proofs.Tests.{leb-yes, leb-no}
 use Rattle.reader.proofs.item.is_integer.Statement.{statement}
 use Rattle.reader.proofs.item.is_integer.Tie as tie
-use Rattle.reader.proofs.item.is_integer.Reads as reads
-use Rattle.reader.proofs.item.is_integer.Lts as lts
 
--- src/item.rt:230:9
 returns : tie.Need-returns
 unfolding _&&_
 returns c = rw (leb-no (c .if1 .taken))
 
--- src/item.rt:226:1
 returns-2 : tie.Need-returns-2
 unfolding _&&_
 returns-2 c = rw (leb-yes (c .if1 .left))

@@ -1,84 +1,65 @@
+-- `name` judges a name in full, and what the table says of it. Assumes nothing.
 use native.Mathlib.Omega.{arith}
-use mathlib.Core.Path.{_≡_, refl, sym, ap, _∙_}
-use mathlib.Core.Bool.{not}
-use borrow.Author.Tests.{not-true, not-false}
+use mathlib.Core.Path.{refl, sym, _∙_}
 use Rattle.format.specs.Item.{isKey}
 use Rattle.reader.proofs.Contents.{content-again, content-cut, content-text, name-text, name-moves, name-judged, name-plain, fair-plain}
 use borrow.Author.Needs.{needs}
 use Rattle.reader.proofs.item.name.Statement.{statement}
 use Rattle.reader.proofs.item.name.Tie as tie
-use Rattle.reader.proofs.item.name.Reads as reads
-use Rattle.reader.proofs.item.name.Lts as lts
 use Rattle.format.proofs.header.ByteLength.of.Reads as of-reads
 use Rattle.reader.proofs.item.again.Reads as again-reads
 use Rattle.reader.proofs.item.any_name.Reads as any-name-reads
 use Rattle.reader.proofs.item.new_name.Reads as new-name-reads
 use Rattle.wire.proofs.utf8.is_utf8.Reads as is-utf8-reads
 
--- src/item.rt:207:16
 add-kind : tie.Need-add-kind
 add-kind c = search needs
 
--- src/item.rt:208:8
 again-requires : tie.Need-again-requires
 again-requires c κs = search needs
 
--- src/item.rt:209:9
 returns : tie.Need-returns
 unfolding isKey
 returns c = (λ at depth l. tt, λ o a at so cs. content-again cs _ refl _ (c .before .before .before .before .pre .0 .form) (name-plain (c .before .before .before .before .pre .0)) (sym (c .before .again .ensures) ∙ c .if1 .taken))
 
--- src/item.rt:211:9
 of-requires : tie.Need-of-requires
 of-requires c κs = search needs
 
--- src/item.rt:213:10
 sub-if2 : tie.Need-sub-if2
 sub-if2 c = search needs
 
--- src/item.rt:214:9
 returns-2 : tie.Need-returns-2
 unfolding isKey
 returns-2 c = (λ at depth l. tt, λ o a at so cs. content-cut cs _ (c .before .of .ensures) _ (c .before .before .before .before .before .before .pre .0 .form) (name-plain (c .before .before .before .before .before .before .pre .0)) (sym (c .before .before .before .again .ensures) ∙ c .before .before .if1 .left) (c .if2 .taken))
 
--- src/item.rt:216:13
 add-e : tie.Need-add-e
 add-e c = search needs
 
--- src/item.rt:217:29
 sub-is-utf8 : tie.Need-sub-is-utf8
 sub-is-utf8 c = search needs
 
--- src/item.rt:217:29
 part-is-utf8-start : tie.Need-part-is-utf8-start
 part-is-utf8-start c = search needs
 
--- src/item.rt:217:29
 part-is-utf8-end : tie.Need-part-is-utf8-end
 part-is-utf8-end c = search needs
 
--- src/item.rt:217:9
 is-utf8-requires : tie.Need-is-utf8-requires
 is-utf8-requires c κs = search needs
 
--- src/item.rt:218:9
 returns-3 : tie.Need-returns-3
 unfolding isKey
 returns-3 c = (λ at depth l. tt, λ o a at so cs. content-text cs _ (c .before .before .before .before .of .ensures) _ (c .before .before .before .before .before .before .before .before .before .pre .0 .form) (name-plain (c .before .before .before .before .before .before .before .before .before .pre .0)) (sym (c .before .before .before .before .before .before .again .ensures) ∙ c .before .before .before .before .before .if1 .left) (c .before .before .before .if2 .left) (name-text (c .before .before .before .before .before .before .before .before .before .args .s .now) (c .before .before .before .before .before .before .before .before .before .args .next) _ (c .before .before .before .before .before .before .before .before .before .pre .0) (c .before .is-utf8 .ensures) ∙ c .if3 .taken))
 
--- src/item.rt:221:9
 new-name-requires : tie.Need-new-name-requires
 new-name-requires c κs = (omega (arith, c .before .before .before .before .before .before .before .before .before .before .before .before .pre .0 .high), omega (arith, c .before .before .before .before .before .before .before .before .before .before .before .before .pre .0 .last), omega arith, omega arith, c .before .before .before .before .before .before .before .before .before .before .before .before .pre .2, c .before .before .before .before .before .before .before .before .before .before .before .before .pre .3 .chained (c .before .before .if4 .taken))
 
--- src/item.rt:221:9
 returns-4 : tie.Need-returns-4
 returns-4 c = (λ at depth l. name-moves (c .before .before .before .if4 .taken) at depth (omega arith) (omega arith) (c .new-name .ensures), λ o a at so cs. name-judged (c .before .before .before .before .before .before .before .before .before .before .before .before .before .pre .0) (so ∙ c .before .before .before .if4 .taken) cs _ (c .before .before .before .before .before .before .before .before .of .ensures) (c .before .before .before .before .before .before .before .before .before .before .before .before .before .pre .3 .size) (c .before .before .before .before .before .before .before .before .before .before .before .before .before .pre .3 .few) (sym (c .before .before .before .before .before .before .before .before .before .before .again .ensures) ∙ c .before .before .before .before .before .before .before .before .before .if1 .left) (c .before .before .before .before .before .before .before .if2 .left) (name-text (c .before .before .before .before .before .before .before .before .before .before .before .before .before .args .s .now) (c .before .before .before .before .before .before .before .before .before .before .before .before .before .args .next) _ (c .before .before .before .before .before .before .before .before .before .before .before .before .before .pre .0) (c .before .before .before .before .before .is-utf8 .ensures) ∙ c .before .before .before .before .if3 .left) (c .new-name .ensures))
 
--- src/item.rt:223:5
 any-name-requires : tie.Need-any-name-requires
 any-name-requires c κs = (omega (arith, c .before .before .before .before .before .before .before .before .before .before .before .pre .0 .high), omega (arith, c .before .before .before .before .before .before .before .before .before .before .before .pre .0 .last), omega arith, omega (arith, c .before .before .before .before .before .before .before .before .before .before .before .pre .2), c .before .before .before .before .before .before .before .before .before .before .before .pre .3 .few)
 
--- src/item.rt:192:1
 returns-5 : tie.Need-returns-5
 returns-5 c = (λ at depth l. name-moves (c .before .before .if4 .left) at depth (omega arith) (omega arith) (c .any-name .ensures (c .before .before .before .before .before .before .before .before .before .before .before .before .args .s .now) (c .before .before .before .before .before .before .before .before .before .before .before .before .args .links .now) (omega arith) (fair-plain (c .before .before .before .before .before .before .before .before .before .before .before .before .pre .3))), λ o a at so cs. name-judged (c .before .before .before .before .before .before .before .before .before .before .before .before .pre .0) (so ∙ c .before .before .if4 .left) cs _ (c .before .before .before .before .before .before .before .of .ensures) (c .before .before .before .before .before .before .before .before .before .before .before .before .pre .3 .size) (c .before .before .before .before .before .before .before .before .before .before .before .before .pre .3 .few) (sym (c .before .before .before .before .before .before .before .before .before .again .ensures) ∙ c .before .before .before .before .before .before .before .before .if1 .left) (c .before .before .before .before .before .before .if2 .left) (name-text (c .before .before .before .before .before .before .before .before .before .before .before .before .args .s .now) (c .before .before .before .before .before .before .before .before .before .before .before .before .args .next) _ (c .before .before .before .before .before .before .before .before .before .before .before .before .pre .0) (c .before .before .before .before .is-utf8 .ensures) ∙ c .before .before .before .if3 .left) (c .any-name .ensures (c .before .before .before .before .before .before .before .before .before .before .before .before .args .s .now) (c .before .before .before .before .before .before .before .before .before .before .before .before .args .links .now) (omega arith) (fair-plain (c .before .before .before .before .before .before .before .before .before .before .before .before .pre .3))))
 

@@ -1,69 +1,54 @@
+-- `new_name` enters a name that a lookup does not find. Assumes nothing.
 use native.Mathlib.Omega.{arith}
-use mathlib.Core.Path.{_≡_, refl, sym, _∙_}
+use mathlib.Core.Path.{refl, sym, _∙_}
 use Rattle.reader.proofs.NameEntry.{strict-known, strict-full, entry-sound, entry-new, strict-entered}
 use borrow.Author.Needs.{needs}
 use Rattle.reader.proofs.item.new_name.Statement.{statement}
 use Rattle.reader.proofs.item.new_name.Tie as tie
-use Rattle.reader.proofs.item.new_name.Reads as reads
-use Rattle.reader.proofs.item.new_name.Lts as lts
 use Rattle.reader.proofs.item.fresh.Reads as fresh-reads
 use Rattle.symbols.proofs.entry.key_of.Reads as key-of-reads
 use Rattle.symbols.proofs.lookup.enter.Reads as enter-reads
 use Rattle.symbols.proofs.lookup.find.Reads as find-reads
 
--- src/item.rt:158:16
 sub-part : tie.Need-sub-part
 sub-part c = search needs
 
--- src/item.rt:158:16
 part-part-start : tie.Need-part-part-start
 part-part-start c = search needs
 
--- src/item.rt:158:16
 part-part-end : tie.Need-part-part-end
 part-part-end c = search needs
 
--- src/item.rt:159:9
 key-of-requires : tie.Need-key-of-requires
 key-of-requires c κs = search needs
 
--- src/item.rt:160:11
 find-requires : tie.Need-find-requires
 find-requires c κs = search needs
 
--- src/item.rt:161:35
 enum-told : tie.Need-enum-told
 enum-told c = search needs
 
--- src/item.rt:163:16
 enum-told-2 : tie.Need-enum-told-2
 enum-told-2 c = search needs
 
--- src/item.rt:164:17
 returns : tie.Need-returns
 returns c = strict-full (c .before .before .before .before .before .before .before .before .before .args .s .now) (c .before .before .before .before .before .before .before .before .before .args .entries .now) (c .before .before .before .before .before .before .before .before .before .args .names) (c .before .before .before .before .before .before .before .before .before .args .kind) (c .before .before .before .before .before .before .before .before .before .args .next) (c .before .before .before .before .before .before .before .before .before .args .e) (c .before .before .before .before .before .before .before .before .before .pre .0) (c .before .before .before .before .before .before .before .before .before .pre .1) (c .before .before .before .before .before .before .before .before .before .pre .2) (omega (arith, c .before .before .before .before .before .before .before .before .before .pre .3, c .before .before .before .before .before .before .before .before .before .pre .4)) (c .before .before .before .before .before .before .before .before .before .pre .5 .table .size) (c .before .before .before .before .before .before .before .before .before .pre .3) _ (c .before .before .before .before .before .before .key-of .ensures .0) (sym (c .before .enum-told2 .given .1) ∙ c .before .before .before .find .ensures) _ (omega arith) refl
 
--- src/item.rt:166:65
 mul-enter : tie.Need-mul-enter
 mul-enter c = search needs
 
--- src/item.rt:166:65
 add-enter : tie.Need-add-enter
 add-enter c = search needs
 
--- src/item.rt:166:13
 enter-requires : tie.Need-enter-requires
 enter-requires c κs = (c .before .before .before .before .before .before .before .before .before .before .before .pre .5, omega arith, entry-sound (c .before .before .before .before .before .before .before .before .before .before .before .args .s .now) (c .before .before .before .before .before .before .before .before .before .before .before .args .entries .now) (c .before .before .before .before .before .before .before .before .before .before .before .args .names) (c .before .before .before .before .before .before .before .before .before .before .before .args .kind) (c .before .before .before .before .before .before .before .before .before .before .before .args .next) (c .before .before .before .before .before .before .before .before .before .before .before .args .e) (c .before .before .before .before .before .before .before .before .before .before .before .pre .0) (c .before .before .before .before .before .before .before .before .before .before .before .pre .1) (c .before .before .before .before .before .before .before .before .before .before .before .pre .2) (omega (arith, c .before .before .before .before .before .before .before .before .before .before .before .pre .3, c .before .before .before .before .before .before .before .before .before .before .before .pre .4)) (c .before .before .before .before .before .before .before .before .before .before .before .pre .5 .table .size) (c .before .before .before .before .before .before .before .before .before .before .before .pre .3) _ (c .before .before .before .before .before .before .before .before .key-of .ensures .0) (sym (c .before .before .before .enum-told2 .given .1) ∙ c .before .before .before .before .before .find .ensures), entry-new (c .before .before .before .before .before .before .before .before .before .before .before .args .s .now) (c .before .before .before .before .before .before .before .before .before .before .before .args .entries .now) (c .before .before .before .before .before .before .before .before .before .before .before .args .names) (c .before .before .before .before .before .before .before .before .before .before .before .args .kind) (c .before .before .before .before .before .before .before .before .before .before .before .args .next) (c .before .before .before .before .before .before .before .before .before .before .before .args .e) (c .before .before .before .before .before .before .before .before .before .before .before .pre .0) (c .before .before .before .before .before .before .before .before .before .before .before .pre .1) (c .before .before .before .before .before .before .before .before .before .before .before .pre .2) (omega (arith, c .before .before .before .before .before .before .before .before .before .before .before .pre .3, c .before .before .before .before .before .before .before .before .before .before .before .pre .4)) (c .before .before .before .before .before .before .before .before .before .before .before .pre .5 .table .size) (c .before .before .before .before .before .before .before .before .before .before .before .pre .3) _ (c .before .before .before .before .before .before .before .before .key-of .ensures .0) (sym (c .before .before .before .enum-told2 .given .1) ∙ c .before .before .before .before .before .find .ensures))
 
--- src/item.rt:167:13
 fresh-requires : tie.Need-fresh-requires
 fresh-requires c κs = search needs
 
--- src/item.rt:146:1
 returns-2 : tie.Need-returns-2
 returns-2 c = strict-known (c .before .before .before .before .before .before .before .before .args .s .now) (c .before .before .before .before .before .before .before .before .args .entries .now) (c .before .before .before .before .before .before .before .before .args .names) (c .before .before .before .before .before .before .before .before .args .kind) (c .before .before .before .before .before .before .before .before .args .next) (c .before .before .before .before .before .before .before .before .args .e) (c .before .before .before .before .before .before .before .before .pre .0) (c .before .before .before .before .before .before .before .before .pre .1) (c .before .before .before .before .before .before .before .before .pre .2) (omega (arith, c .before .before .before .before .before .before .before .before .pre .3, c .before .before .before .before .before .before .before .before .pre .4)) (c .before .before .before .before .before .before .before .before .pre .5 .table .size) (c .before .before .before .before .before .before .before .before .pre .3) _ (c .before .before .before .before .before .key-of .ensures .0) _ (sym (c .enum-told .given .1) ∙ c .before .before .find .ensures) refl
 
--- src/item.rt:146:1
 returns-3 : tie.Need-returns-3
 returns-3 c = strict-entered (c .before .before .before .before .before .before .before .before .before .before .before .before .before .args .s .now) (c .before .before .before .before .before .before .before .before .before .before .before .before .before .args .entries .now) (c .before .before .before .before .before .before .before .before .before .before .before .before .before .args .names) (c .before .before .before .before .before .before .before .before .before .before .before .before .before .args .kind) (c .before .before .before .before .before .before .before .before .before .before .before .before .before .args .next) (c .before .before .before .before .before .before .before .before .before .before .before .before .before .args .e) (c .before .before .before .before .before .before .before .before .before .before .before .before .before .pre .0) (c .before .before .before .before .before .before .before .before .before .before .before .before .before .pre .1) (c .before .before .before .before .before .before .before .before .before .before .before .before .before .pre .2) (omega (arith, c .before .before .before .before .before .before .before .before .before .before .before .before .before .pre .3, c .before .before .before .before .before .before .before .before .before .before .before .before .before .pre .4)) (c .before .before .before .before .before .before .before .before .before .before .before .before .before .pre .5 .table .size) (c .before .before .before .before .before .before .before .before .before .before .before .before .before .pre .3) _ (c .before .before .before .before .before .before .before .before .before .before .key-of .ensures .0) (sym (c .before .before .before .before .before .enum-told2 .given .1) ∙ c .before .before .before .before .before .before .before .find .ensures) (omega arith) (c .before .enter .ensures .0) (c .before .enter .ensures .1) (c .fresh .ensures)
 

@@ -1,37 +1,27 @@
-use mathlib.Core.Path.{_≡_, refl, sym, _∙_}
-use mathlib.Core.Option.{some, none}
-use Rattle.wire.specs.Heads.{wholeOf}
+-- `one` judges an item by its header, if that is whole. Assumes nothing.
 use Rattle.reader.proofs.Ladder.{cut}
 use Rattle.reader.proofs.Heads.{judged-item}
 use borrow.Author.Needs.{needs}
 use Rattle.reader.proofs.item.one.Statement.{statement}
 use Rattle.reader.proofs.item.one.Tie as tie
-use Rattle.reader.proofs.item.one.Reads as reads
-use Rattle.reader.proofs.item.one.Lts as lts
 use Rattle.reader.proofs.item.judge.Reads as judge-reads
 use Rattle.wire.proofs.header.header_at.Reads as header-at-reads
 
--- src/item.rt:291:11
 header-at-requires : tie.Need-header-at-requires
 header-at-requires c κs = search needs
 
--- src/item.rt:292:31
 enum-told : tie.Need-enum-told
 enum-told c = search needs
 
--- src/item.rt:293:21
 enum-known-h : tie.Need-enum-known-h
 enum-known-h c = search needs
 
--- src/item.rt:293:27
 judge-requires : tie.Need-judge-requires
 judge-requires c κs = ((rw (c .before .before .before .h .given .1) at (c .before .before .before .before .before .header-at .ensures)), c .before .before .before .before .before .before .before .pre .0, c .before .before .before .before .before .before .before .pre .1, c .before .before .before .before .before .before .before .pre .2)
 
--- src/item.rt:276:1
 returns : tie.Need-returns
 returns c = (tt, λ o a so hold d. cut o a _ (rw (c .enum-told .given .1) at (c .before .before .header-at .ensures)))
 
--- src/item.rt:276:1
 returns-2 : tie.Need-returns-2
 returns-2 c = (c .judge .ensures .0, λ o a so hold d. judged-item (c .before .before .before .before .before .before .before .before .args .s .now) _ (c .before .before .before .before .before .before .before .before .args .names) o a _ (c .judge .result) (rw (c .before .before .before .before .h .given .1) at (c .before .before .before .before .before .before .header-at .ensures)) (c .judge .ensures .1 o a so hold d))
 

@@ -1,33 +1,26 @@
+-- `reference` judges a reference by the entry at its index. Assumes nothing.
 use native.Mathlib.Omega.{arith}
 use mathlib.Core.Path.{refl}
 use Rattle.reader.proofs.Flat.{reference-missing, reference-value, reference-again, reference-key}
 use borrow.Author.Needs.{needs}
 use Rattle.reader.proofs.item.reference.Statement.{statement}
 use Rattle.reader.proofs.item.reference.Tie as tie
-use Rattle.reader.proofs.item.reference.Reads as reads
-use Rattle.reader.proofs.item.reference.Lts as lts
 
--- src/item.rt:83:9
 returns : tie.Need-returns
 returns c = (λ strict s links at depth m. tt, λ s o a bs at cs. reference-missing bs cs (c .before .pre .0) (c .before .pre .2) (c .before .pre .1) (omega arith))
 
--- src/item.rt:86:13
 mul-e : tie.Need-mul-e
 mul-e c = search needs
 
--- src/item.rt:86:13
 element-copy-out-e : tie.Need-element-copy-out-e
 element-copy-out-e c = search needs
 
--- src/item.rt:88:9
 returns-2 : tie.Need-returns-2
 returns-2 c = (λ strict s links at depth m. m, λ s o a bs at cs. reference-value bs cs (c .before .before .before .pre .0) (c .before .before .before .pre .2) (c .before .before .before .pre .1) (omega arith) _ refl (c .if2 .taken))
 
--- src/item.rt:91:9
 returns-3 : tie.Need-returns-3
 returns-3 c = (λ strict s links at depth m. tt, λ s o a bs at cs. reference-again bs cs (c .before .before .before .before .pre .0) (c .before .before .before .before .pre .2) (c .before .before .before .before .pre .1) (omega arith) _ refl (c .before .if2 .left) (c .if3 .taken))
 
--- src/item.rt:75:1
 returns-4 : tie.Need-returns-4
 returns-4 c = (λ strict s links at depth m. m, λ s o a bs at cs. reference-key bs cs (c .before .before .before .before .pre .0) (c .before .before .before .before .pre .2) (c .before .before .before .before .pre .1) (omega arith) _ refl (c .before .if2 .left) (c .if3 .left))
 

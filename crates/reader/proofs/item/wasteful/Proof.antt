@@ -1,3 +1,4 @@
+-- `wasteful` is the first rule. Assumes nothing.
 use mathlib.Core.Path.{sym, _∙_}
 use Rattle.format.specs.Choice.{_&&_, _||_}
 use Rattle.format.specs.Header.{isNegativeAlias}
@@ -6,30 +7,23 @@ use borrow.Author.Tests.{not-true, not-false}
 use borrow.Author.Needs.{needs}
 use Rattle.reader.proofs.item.wasteful.Statement.{statement}
 use Rattle.reader.proofs.item.wasteful.Tie as tie
-use Rattle.reader.proofs.item.wasteful.Reads as reads
-use Rattle.reader.proofs.item.wasteful.Lts as lts
 use Rattle.wire.proofs.header.is_long.Reads as is-long-reads
 
--- src/item.rt:43:9
 returns : tie.Need-returns
 unfolding _&&_ _||_ isNegativeAlias
 returns c = rw (not-true (c .before .args .strict) (c .if1 .taken))
 
--- src/item.rt:45:8
 is-long-requires : tie.Need-is-long-requires
 is-long-requires c κs = search needs
 
--- src/item.rt:46:9
 returns-2 : tie.Need-returns-2
 unfolding _&&_ _||_ isNegativeAlias
 returns-2 c = rw (not-false (c .before .before .before .args .strict) (c .before .before .if1 .left), sym (c .before .is-long .ensures) ∙ c .if2 .taken)
 
--- src/item.rt:51:9
 returns-3 : tie.Need-returns-3
 unfolding _&&_ _||_ isNegativeAlias
 returns-3 c = rw (not-false (c .before .before .before .before .args .strict) (c .before .before .before .if1 .left), sym (c .before .before .is-long .ensures) ∙ c .before .if2 .left, eqb-yes (c .if3 .taken))
 
--- src/item.rt:39:1
 returns-4 : tie.Need-returns-4
 unfolding _&&_ _||_ isNegativeAlias
 returns-4 c = rw (not-false (c .before .before .before .before .args .strict) (c .before .before .before .if1 .left), sym (c .before .before .is-long .ensures) ∙ c .before .if2 .left, eqb-no (c .if3 .left))

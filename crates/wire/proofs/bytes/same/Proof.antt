@@ -1,7 +1,7 @@
+-- `same` compares byte by byte. Assumes nothing.
 use mathlib.Core.Path.{_≡_, refl, sym, _∙_}
 use Prim.Native.Nat.{_≤_, _-_}
 use native.Mathlib.Omega.{arith}
-use native.Mathlib.Nat.{le-antisymm}
 use lib.ListN.{length, drop}
 use Rattle.format.specs.Names.{same}
 use Rattle.wire.proofs.SameLaws.{apart, differs, agrees, ends}

@@ -1,6 +1,7 @@
+-- `following` is its definition, by cases. Assumes nothing.
 use borrow.Author.Tests.{lt-ltb, le-ltb, eq-eqb, ne-eqb}
 use Rattle.format.specs.Choice.{pick, _&&_}
-use Rattle.format.specs.Header.{following, shift}
+use Rattle.format.specs.Header.{following}
 use borrow.Author.Needs.{needs}
 use Rattle.wire.proofs.header.following.Statement.{statement}
 use Rattle.wire.proofs.header.following.Tie as tie

@@ -1,5 +1,5 @@
-use mathlib.Core.Path.{_≡_, refl, sym, ap, _∙_}
-use Prim.Native.Nat.{ℕ, _+_, _<_, _≤_}
+-- `header_at` is the header of what stands from an offset on, or cut. Assumes nothing.
+use mathlib.Core.Path.{refl, sym, _∙_}
 use native.Mathlib.Omega.{arith}
 use Rattle.format.proofs.Headers.{following-le, payload-inside, payload-after}
 use Rattle.wire.proofs.HeaderLaws.{no-header, cut-header, whole-header}

@@ -1,7 +1,6 @@
-use mathlib.Core.Path.{sym, ap, _∙_}
+-- `header_len` is the length of the shortest header. Assumes nothing.
+use mathlib.Core.Path.{sym}
 use native.Mathlib.Omega.{arith}
-use Prim.Native.Nat.{_<_, _≤_, _+_}
-use Rattle.format.specs.Header.{shift}
 use Rattle.format.proofs.Headers.{shift-zero, shift-other, length-short, length-long}
 use Rattle.format.proofs.Numbers.{width-holds}
 use borrow.Author.Needs.{needs}

@@ -1,6 +1,6 @@
+-- `inline_payload` is its definition, by cases. Assumes nothing.
 use native.Mathlib.Omega.{arith}
 use Rattle.format.proofs.Headers.{shift-zero, shift-other}
-use borrow.Author.Needs.{needs}
 use Rattle.wire.proofs.header.inline_payload.Statement.{statement}
 use Rattle.wire.proofs.header.inline_payload.Tie as tie
 

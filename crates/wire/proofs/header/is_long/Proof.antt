@@ -1,4 +1,4 @@
-use mathlib.Core.Path.{sym, ap, _∙_}
+-- `is_long` asks only where the payload stands in following bytes. Assumes nothing.
 use Rattle.format.specs.Choice.{_&&_}
 use Rattle.format.specs.Header.{isLong}
 use Rattle.format.proofs.Tests.{ltb-yes, ltb-no}

@@ -1,7 +1,8 @@
-use mathlib.Core.Path.{_≡_, refl, ap, sym, subst, _∙_}
+-- `number` reads a payload, most significant byte first. Assumes nothing.
+use mathlib.Core.Path.{_≡_, refl, ap, sym, _∙_}
 use Prim.Native.Nat.{ℕ, _+_, _*_, _^_, _≤_, _<_, _-_}
 use native.Mathlib.Omega.{arith}
-use lib.ListN.{length, take, drop, getD}
+use lib.ListN.{take, drop, getD}
 use borrow.Author.Needs.{needs}
 use Rattle.format.specs.Header.{bigEndian}
 use Rattle.wire.proofs.HeaderLaws.{bigEndian-step, more, most, bigEndian-one}
