@@ -1,9 +1,14 @@
 // The C interface, built as the static library `libnachricht.a`.
 ghost use mathlib.Core.Path.{_≡_};
+ghost use lib.ListN.{length};
+ghost use Rattle.format.specs.Answer.{stored};
 ghost use Rattle.format.specs.Limits.{max-rows};
 ghost use Rattle.format.specs.Reading.{options, counts};
+ghost use Rattle.format.specs.Rows as table;
+ghost use Rattle.reader.specs.Answers.{answerOf};
 ghost use Rattle.nachricht.specs.Answers.{modeOf, countsAnswer};
 use format::Mode;
+use format::Row;
 use reader::Checked;
 
 // An answer: the error's number or 0, its place and side, and the counts.
@@ -26,12 +31,10 @@ fn mode_of(strict: bool) -> Mode
     Mode::Lenient
 }
 
-// Checks a bundle.
-#[no_mangle]
-pub extern "C" fn nachricht_check(bytes: &[u8], strict: bool) -> Answer
-    ensures { λ r. ⌜ r ≡ countsAnswer (counts (options (modeOf strict) max-rows) (now (bytes .entry))) ⌝ }
+fn answer_of(r: Checked) -> Answer
+    ensures { λ a. ⌜ a ≡ countsAnswer (answerOf r) ⌝ }
 {
-    match reader::check_in(bytes, mode_of(strict)) {
+    match r {
         Checked::Failed(k, p) => Answer {
             error: k.code() as u64,
             place: p as u64,
@@ -49,4 +52,21 @@ pub extern "C" fn nachricht_check(bytes: &[u8], strict: bool) -> Answer
             fields: b.fields as u64,
         },
     }
+}
+
+// Checks a bundle.
+#[no_mangle]
+pub extern "C" fn nachricht_check(bytes: &[u8], strict: bool) -> Answer
+    ensures { λ r. ⌜ r ≡ countsAnswer (counts (options (modeOf strict) max-rows) (now (bytes .entry))) ⌝ }
+{
+    answer_of(reader::check_in(bytes, mode_of(strict)))
+}
+
+// Reads a bundle into a table of rows.
+#[no_mangle]
+pub extern "C" fn nachricht_read(bytes: &[u8], strict: bool, rows: &mut [Row]) -> Answer
+    ensures answer { λ r. ⌜ r ≡ countsAnswer (counts (options (modeOf strict) (length (now (rows .entry)))) (now (bytes .entry))) ⌝ }
+    ensures filled { λ _. ⌜ now (rows .exit) ≡ stored (now (rows .entry)) (table.rows (options (modeOf strict) (length (now (rows .entry)))) (now (bytes .entry))) ⌝ }
+{
+    answer_of(reader::read_in(bytes, mode_of(strict), rows))
 }

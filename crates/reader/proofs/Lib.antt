@@ -13,3 +13,4 @@ pub mod RowsLeft
 pub mod After
 pub mod LocalArray
 pub mod SecondPass
+pub mod WalkSteps

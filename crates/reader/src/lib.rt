@@ -3,8 +3,10 @@ mod checking;
 mod fields;
 mod fill;
 mod item;
-mod read;
+mod reading;
 
 pub use checking::Checked;
 pub use checking::check;
 pub use checking::check_in;
+pub use reading::read;
+pub use reading::read_in;

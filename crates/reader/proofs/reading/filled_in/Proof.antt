@@ -1,4 +1,4 @@
--- `reader::read::filled_in` meets its contract: a walk of its MIR, by hand, with no branch and no loop. All that it knows of `fill` is that it meets its contract.
+-- `reader::reading::filled_in` meets its contract: a walk of its MIR, by hand, with no branch and no loop. All that it knows of `fill` is that it meets its contract.
 -- The table is a local array, lent for the call; rows is passed on at its own lifetime, share and ghost name, and not used again (`gave-slice`).
 -- Assumes nothing.
 use mathlib.Core.Path.{_≡_, refl}
@@ -51,10 +51,10 @@ use Rattle.reader.proofs.fill.fill as fill
 use Rattle.reader.proofs.fill.fill.Symbol as fill-def
 use Rattle.reader.proofs.fill.fill.Symbol.{name as #fill}
 use Rattle.reader.proofs.fill.fill.Met as fill-thm
-use Rattle.reader.proofs.read.filled_in.Key.{name as #filled-in}
-use Rattle.reader.proofs.read.filled_in as filled-in
-use Rattle.reader.proofs.read.filled_in.Statement as stated
-use Rattle.reader.proofs.read.filled_in.Code as code
+use Rattle.reader.proofs.reading.filled_in.Key.{name as #filled-in}
+use Rattle.reader.proofs.reading.filled_in as filled-in
+use Rattle.reader.proofs.reading.filled_in.Statement as stated
+use Rattle.reader.proofs.reading.filled_in.Code as code
 
 -- ---- the table
 abbrev Tb : RattleType

@@ -1,0 +1,29 @@
+/* The C interface of nachricht. Link libnachricht.a. */
+#ifndef NACHRICHT_H
+#define NACHRICHT_H
+#include <stdbool.h>
+#include <stddef.h>
+#include <stdint.h>
+
+typedef struct nachricht_row {
+    uint8_t kind;
+    uint64_t number;
+    size_t start;
+} nachricht_row;
+
+typedef struct nachricht_answer {
+    uint64_t error;   /* the error's number, or 0 */
+    uint64_t place;   /* of an error: the offset of the item */
+    uint64_t side;    /* joining: 1 or 2 for the bundle that is refused, else 0 */
+    uint64_t count;   /* rows read; 0 beside an error */
+    uint64_t entries; /* in the symbol table */
+    uint64_t fields;  /* at the top level */
+} nachricht_answer;
+
+/* Checks a bundle. */
+nachricht_answer nachricht_check(const uint8_t *bytes, size_t len, bool strict);
+
+/* Reads a bundle into a table of rows. On an error no row is changed. */
+nachricht_answer nachricht_read(const uint8_t *bytes, size_t len, bool strict, nachricht_row *rows, size_t rows_len);
+
+#endif

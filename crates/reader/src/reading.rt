@@ -1,0 +1,71 @@
+// Reading a bundle into a table of rows: checked first, then filled in.
+ghost use mathlib.Core.Path.{_≡_};
+ghost use Prim.Native.Nat.{_≤_, _<_, min};
+ghost use mathlib.Core.List.{_++_};
+ghost use lib.ListN.{length, drop, replicate};
+ghost use Rattle.format.specs.declared.error.Mode.the-variants.{Lenient};
+ghost use Rattle.format.specs.Answer.{stored};
+ghost use Rattle.format.specs.Limits.{max-rows};
+ghost use Rattle.format.specs.Reading.{options, counts};
+ghost use Rattle.format.specs.Rows as table;
+ghost use Rattle.reader.specs.Answers.{answerOf, rowsIn};
+ghost use Rattle.reader.specs.Filling.{rowsFrom, begin};
+use crate::checking::Checked;
+use crate::fill::fill;
+use format::Mode;
+use format::Row;
+use format::SymbolTable;
+
+// Fills the first n rows, from an empty table of entries.
+fn filled_in(bytes: &[u8], rows: &mut [Row], n: usize)
+    requires { ⌜ (n ≤ length (now rows)) × (0 < n → length (now bytes) ≤ 16384) ⌝ }
+    ensures { λ _. ⌜ now (rows .exit) ≡ rowsFrom n (now (bytes .entry)) (replicate 256 0) begin ++ drop n (now (rows .entry)) ⌝ }
+{
+    let mut entries = [0u64; SymbolTable::MAX_ENTRIES];
+    fill(bytes, &mut entries, rows, n);
+}
+
+// How many rows may be read into a table.
+fn most(capacity: usize) -> usize
+    ensures { λ r. ⌜ (r ≡ min max-rows capacity) × (r ≤ max-rows) ⌝ }
+{
+    if Row::MAX_COUNT <= capacity {
+        return Row::MAX_COUNT;
+    }
+    capacity
+}
+
+// The counts of a bundle that is read into a table.
+fn counted(bytes: &[u8], mode: Mode, capacity: usize) -> Checked
+    ensures { λ r. ⌜ answerOf r ≡ counts (options mode capacity) (now (bytes .entry)) ⌝ }
+{
+    crate::checking::walk(bytes, mode, most(capacity))
+}
+
+// How many rows are to be filled in.
+fn count_of(answer: Checked) -> usize
+    ensures { λ r. ⌜ r ≡ rowsIn (answerOf answer) ⌝ }
+{
+    match answer {
+        Checked::Good(b) => b.rows,
+        Checked::Failed(_, _) => 0,
+    }
+}
+
+// Reads a bundle leniently.
+pub fn read(bytes: &[u8], rows: &mut [Row]) -> Checked
+    ensures answer { λ r. ⌜ answerOf r ≡ counts (options Lenient (length (now (rows .entry)))) (now (bytes .entry)) ⌝ }
+    ensures filled { λ _. ⌜ now (rows .exit) ≡ stored (now (rows .entry)) (table.rows (options Lenient (length (now (rows .entry)))) (now (bytes .entry))) ⌝ }
+{
+    read_in(bytes, Mode::default(), rows)
+}
+
+// Reads a bundle: its counts, with its rows in the first places of the table; on an error no row is changed.
+pub fn read_in(bytes: &[u8], mode: Mode, rows: &mut [Row]) -> Checked
+    ensures answer { λ r. ⌜ answerOf r ≡ counts (options mode (length (now (rows .entry)))) (now (bytes .entry)) ⌝ }
+    ensures filled { λ _. ⌜ now (rows .exit) ≡ stored (now (rows .entry)) (table.rows (options mode (length (now (rows .entry)))) (now (bytes .entry))) ⌝ }
+{
+    let answer = counted(bytes, mode, rows.len());
+    filled_in(bytes, rows, count_of(answer));
+    answer
+}
