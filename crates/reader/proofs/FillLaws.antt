@@ -17,7 +17,7 @@ use Rattle.format.proofs.Tests.{order, equal, eqb-yes, eqb-no, leb-yes, leb-no,
 use Rattle.format.proofs.Headers.{size-within}
 use Rattle.symbols.specs.Entry.{kindIn, lengthIn, startIn}
 use Rattle.reader.specs.declared.fill.Filled.{Filled}
-use Rattle.reader.specs.Filling.{clamped, rowOf, fixedRow, entryRow, packed, filledForm, tableForm, filledAt, tableAt, filledNext, tableNext}
+use Rattle.reader.specs.Filling.{clamped, rowOf, fixedRow, entryRow, packed, filledForm, tableForm, filledAt, tableAt, filledNext, tableNext, blank}
 use Rattle.reader.proofs.Flat.{form-reference}
 use Rattle.reader.proofs.Heads.{standing}
 
@@ -126,9 +126,9 @@ module _ (s : List ℕ) where
       (omega (arith, st .inside), st .codes)
 
   module _ (es : List ℕ) (f : Filled) where
-    pub next-none : none ≡ headerOf (drop (f .at) s) → (f ≡ filledNext s es f) × (es ≡ tableNext s es f)
+    pub next-none : {r : Row} → r ≡ blank → none ≡ headerOf (drop (f .at) s) → (record { at = f .at; names = f .names; row = r } ≡ filledNext s es f) × (es ≡ tableNext s es f)
     unfolding filledNext filledAt tableNext tableAt
-    next-none e = rw (← e) (refl, refl)
+    next-none b e = rw (← e, b) (refl, refl)
 
     pub next-some : {h : Header} {r : Filled} {l : List ℕ} → some h ≡ headerOf (drop (f .at) s)
         → Fills es (f .at + h .size) (f .names) (h .payload) (formOf h) r l → (r ≡ filledNext s es f) × (l ≡ tableNext s es f)

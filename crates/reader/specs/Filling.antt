@@ -47,9 +47,12 @@ tableForm es next names p (fixed k n) = es
 tableForm es next names p (content k) = pick (leb 10 k && ltb names 256) (set es names (packed k next (clamped 16384 p))) es
 tableForm es next names p reference = es
 
+abbrev pub blank : Row
+blank = rowOf 0 0 0
+
 -- By the header at an offset, if there is one.
 unfoldable pub filledAt : List ℕ → Filled → Option Header → Filled
-filledAt es f none = f
+filledAt es f none = record { at = f .at; names = f .names; row = blank }
 filledAt es f (some h) = filledForm es (f .at + h .size) (f .names) (h .payload) (formOf h)
 
 unfoldable pub tableAt : List ℕ → Filled → Option Header → List ℕ
@@ -68,9 +71,6 @@ tableNext s es f = tableAt es f (headerOf (drop (f .at) s))
 unfoldable pub rowsFrom : ℕ → List ℕ → List ℕ → Filled → List Row
 rowsFrom zero s es f = []
 rowsFrom (suc k) s es f = let g = filledNext s es f in g .row ∷ rowsFrom k s (tableNext s es f) g
-
-abbrev pub blank : Row
-blank = rowOf 0 0 0
 
 abbrev pub begin : Filled
 begin = record { at = 0; names = 0; row = blank }

@@ -143,7 +143,12 @@ pub fn next_row(s: &[u8], entries: &mut [u64; SymbolTable::MAX_ENTRIES], f: Fill
     let at = f.at;
     let names = f.names;
     match wire::header::header_at(s, at) {
-        Head::Cut => f,
+        // f itself here would carry the padding of its row round the loop, which costs as much as all else
+        Head::Cut => Filled {
+            at,
+            names,
+            row: Row::new(0, 0, 0),
+        },
         Head::Whole(h) => headed_row(h, at, names, entries),
     }
 }

@@ -11,6 +11,9 @@ header-at-requires c κs = search needs
 enum-told : tie.Need-enum-told
 enum-told c = search needs
 
+new-requires : tie.Need-new-requires
+new-requires c κs = search needs
+
 enum-known-h : tie.Need-enum-known-h
 enum-known-h c = search needs
 
@@ -18,7 +21,7 @@ headed-row-requires : tie.Need-headed-row-requires
 headed-row-requires c κs = placed (c .before .before .before .before .before .before .args .s .now) _ _ (c .before .before .before .before .before .before .pre) (λ i. omega (arith, c .before .before .before .before .before .shared-slice-known .given i)) (rw (c .before .before .h .given .1) at (c .before .before .before .before .header-at .ensures))
 
 returns : tie.Need-returns
-returns c = next-none (c .before .before .before .before .args .s .now) _ _ (rw (c .enum-told .given .1) at (c .before .before .header-at .ensures))
+returns c = next-none (c .before .before .before .before .before .args .s .now) _ _ (c .new .ensures) (rw (c .before .enum-told .given .1) at (c .before .before .before .header-at .ensures))
 
 returns-2 : tie.Need-returns-2
 returns-2 c = next-some (c .before .before .before .before .before .before .before .args .s .now) _ _ (rw (c .before .before .before .h .given .1) at (c .before .before .before .before .before .header-at .ensures)) (c .headed-row .ensures)
@@ -26,4 +29,4 @@ returns-2 c = next-some (c .before .before .before .before .before .before .befo
 pub next-row-spec : {M : Type 1} → statement M
 next-row-spec =
     tie.close
-    (tie.spec header-at-requires enum-told enum-known-h headed-row-requires returns returns-2)
+    (tie.spec header-at-requires enum-told new-requires enum-known-h headed-row-requires returns returns-2)
