@@ -1,5 +1,6 @@
 -- Headers and their numbers, for the loop over a payload and the answers. Assumes nothing.
 use mathlib.Core.Path.{_≡_, refl, ap, sym, subst, _∙_}
+use mathlib.Core.Logic.{_≢_}
 use mathlib.Core.List.{List, [], _∷_}
 use mathlib.Core.Option.{none, some}
 use Prim.Native.Nat.{ℕ, suc, _+_, _-_, _*_, _/_, _%_, _^_, _≤_, _<_}
@@ -9,9 +10,12 @@ use native.Mathlib.Omega.{arith}
 use lib.Dec.{lit<}
 use lib.ListN.{length, take, drop, getD, length-drop, drop-of-length-le}
 use lib.Seq.{take-suc, getD-drop, drop-cons}
+use Rattle.format.specs.Choice.{pick, _&&_}
+use Rattle.format.specs.Limits.{max-inline}
 use Rattle.format.specs.Header.{bigEndian, following, payloadOf, headerOf}
-use Rattle.format.proofs.Tests.{leb-yes, leb-no, pick-yes, pick-no}
+use Rattle.format.proofs.Tests.{eqb-no, leb-yes, leb-no, ltb-no, pick-yes, pick-no}
 use Rattle.format.proofs.Numbers.{bigEndian-append}
+use Rattle.format.proofs.Headers.{payload-inside, shift-other}
 
 -- ---- numbers
 
@@ -58,3 +62,13 @@ module _ (s : List ℕ) (at : ℕ) (h : at < length s) where
     whole-header l p z e ez =
         let g : following (getD s at 0 / 32) (getD s at 0 % 32) ≤ length (drop (at + 1) s) = rw (length-drop, ← en) l in
         at-lead ∙ pick-yes _ _ (leb-yes g) ∙ rw (e, ez, en)
+
+  -- one byte with the payload in it
+  pub inline-header : getD s at 0 / 32 ≢ 0 → getD s at 0 % 32 ≤ max-inline
+      → headerOf (drop at s) ≡ some (record { code = getD s at 0 / 32; sz = getD s at 0 % 32; payload = getD s at 0 % 32; size = 1 })
+  unfolding following _&&_ pick
+  inline-header c l =
+      let n : 0 ≡ following (getD s at 0 / 32) (getD s at 0 % 32) = rw (ltb-no {a = max-inline} {b = getD s at 0 % 32} l, eqb-no c) in
+      let p = payload-inside (getD s at 0 / 32) (getD s at 0 % 32) 0 (drop (at + 1) s) refl in
+      let z = shift-other (getD s at 0 / 32) c in
+      whole-header 0 n (omega arith) _ 1 (omega (arith, p, z)) refl

@@ -74,6 +74,17 @@ pub fn header_at(s: &[u8], at: usize) -> Head
     let lead = s[at];
     let code = lead / 32;
     let sz = lead % 32;
+    // most headers: one byte with the payload in it
+    if code != 0 {
+        if sz as u64 <= Header::MAX_INLINE {
+            return Head::Whole(Header {
+                code,
+                sz,
+                payload: sz as u64,
+                size: 1,
+            });
+        }
+    }
     let n = following(code, sz);
     let b = at + 1;
     if s.len() - b < n {

@@ -2,7 +2,7 @@
 use mathlib.Core.Path.{refl, sym, _∙_}
 use native.Mathlib.Omega.{arith}
 use Rattle.format.proofs.Headers.{following-le, payload-inside, payload-after}
-use Rattle.wire.proofs.HeaderLaws.{no-header, cut-header, whole-header}
+use Rattle.wire.proofs.HeaderLaws.{no-header, cut-header, whole-header, inline-header}
 use borrow.Author.Needs.{needs}
 use Rattle.wire.proofs.header.header_at.Statement.{statement}
 use Rattle.wire.proofs.header.header_at.Tie as tie
@@ -13,23 +13,32 @@ returns c = sym (no-header _ _ (c .if1 .taken))
 shared-slice-read-lead : tie.Need-shared-slice-read-lead
 shared-slice-read-lead c = search needs
 
+cast-if3 : tie.Need-cast-if3
+cast-if3 c = search needs
+
+cast-t14 : tie.Need-cast-t14
+cast-t14 c = search needs
+
+returns-2 : tie.Need-returns-2
+returns-2 c = sym (inline-header _ _ (c .before .before .before .if1 .left) (c .before .if2 .taken) (c .if3 .taken))
+
 following-requires : tie.Need-following-requires
 following-requires c κs = search needs
 
 add-b : tie.Need-add-b
 add-b c = search needs
 
-sub-if2 : tie.Need-sub-if2
-sub-if2 c = search needs
+sub-if4 : tie.Need-sub-if4
+sub-if4 c = search needs
 
-returns-2 : tie.Need-returns-2
-returns-2 c = sym (cut-header _ _ (c .before .before .before .if1 .left) _ (c .before .following .ensures) (c .if2 .taken))
+returns-3 : tie.Need-returns-3
+returns-3 c = sym (cut-header _ _ (c .before .before .before .before .if1 .left) _ (c .before .following .ensures) (c .if4 .taken))
 
 inline-payload-requires : tie.Need-inline-payload-requires
 inline-payload-requires c κs = search needs
 
-returns-3 : tie.Need-returns-3
-returns-3 c = sym (whole-header _ _ (c .before .before .before .before .before .if1 .left) _ (c .before .before .before .following .ensures) (c .before .before .if2 .left) _ _ (c .inline-payload .ensures ∙ sym (payload-inside _ _ _ _ (c .before .if3 .taken))) (omega arith))
+returns-4 : tie.Need-returns-4
+returns-4 c = sym (whole-header _ _ (c .before .before .before .before .before .before .if1 .left) _ (c .before .before .before .following .ensures) (c .before .before .if4 .left) _ _ (c .inline-payload .ensures ∙ sym (payload-inside _ _ _ _ (c .before .if5 .taken))) (omega arith))
 
 number-requires : tie.Need-number-requires
 number-requires c κs = (omega arith, rw (c .before .before .following .ensures) (following-le _ _ (omega arith)))
@@ -37,8 +46,8 @@ number-requires c κs = (omega arith, rw (c .before .before .following .ensures)
 add-t8 : tie.Need-add-t8
 add-t8 c = search needs
 
-returns-4 : tie.Need-returns-4
-returns-4 c = sym (whole-header _ _ (c .before .before .before .before .before .if1 .left) _ (c .before .before .before .following .ensures) (c .before .before .if2 .left) _ _ (c .number .ensures ∙ sym (payload-after _ _ _ _ (c .before .if3 .left))) refl)
+returns-5 : tie.Need-returns-5
+returns-5 c = sym (whole-header _ _ (c .before .before .before .before .before .before .if1 .left) _ (c .before .before .before .following .ensures) (c .before .before .if4 .left) _ _ (c .number .ensures ∙ sym (payload-after _ _ _ _ (c .before .if5 .left))) refl)
 
 pub header-at-spec : {M : Type 1} → statement M
 header-at-spec =
@@ -46,12 +55,15 @@ header-at-spec =
     (tie.spec
     returns
     shared-slice-read-lead
+    cast-if3
+    cast-t14
+    returns-2
     following-requires
     add-b
-    sub-if2
-    returns-2
-    inline-payload-requires
+    sub-if4
     returns-3
+    inline-payload-requires
+    returns-4
     number-requires
     add-t8
-    returns-4)
+    returns-5)
