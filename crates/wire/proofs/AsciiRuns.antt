@@ -13,8 +13,8 @@ use Rattle.format.proofs.Tests.{clash, leb-yes, leb-no}
 use Rattle.wire.specs.Local.{due, passes, passesAt, Passing, Ascii}
 use Rattle.wire.proofs.Ranges.{one-more, joined}
 
-pub ascii-more : (s : List ℕ) (a j : ℕ) (b : Bool) → (b ≡ true → Ascii s a (a + j)) → b && ltb (getD s (a + j) 0) 0x80 ≡ true → Ascii s a (a + (j + 1))
-ascii-more s a j true f h = one-more (λ i. getD s i 0 < 0x80) a j (f refl) (ltb-true _ _ h)
+pub ascii-more : (s : List ℕ) (a j : ℕ) (b : Bool) → (b ≡ true → Ascii s a (a + j)) → b && ltb (getD s (a + j) 0) 0x7f ≡ true → Ascii s a (a + (j + 1))
+ascii-more s a j true f h = one-more (λ i. getD s i 0 < 0x80) a j (f refl) (omega (arith, ltb-true (getD s (a + j) 0) 0x7f h))
 ascii-more s a j false f h = clash h refl
 
 ascii-leads : (b : ℕ) → b < 0x80 → leads b ≡ 0

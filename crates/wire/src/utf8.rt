@@ -72,7 +72,8 @@ fn by_bytes(s: &[u8]) -> bool
     k == 0
 }
 
-// Are the n bytes from a on ASCII? Callers know n, so that this becomes vector code.
+// Are the n bytes from a on ASCII below 0x7f? Callers know n, so that this becomes vector code; the test of the top bit alone becomes slower code,
+// so 0x7f is left to those that look closer.
 fn ascii_at(s: &[u8], a: usize, n: usize) -> bool
     requires { ⌜ a + n ≤ length (now s) ⌝ }
     ensures { λ r. ⌜ (r ≡ true → Ascii (now (s .entry)) a (a + n)) ⌝ }
@@ -80,7 +81,7 @@ fn ascii_at(s: &[u8], a: usize, n: usize) -> bool
     let mut ascii = true;
     let mut j = 0;
     while j < n {
-        ascii = ascii & (s[a + j] < 0x80);
+        ascii = ascii & (s[a + j] < 0x7f);
         j += 1;
     }
     ascii
