@@ -1,0 +1,36 @@
+//! `nachricht_check` answers what the reference answers, in both modes.
+
+use comparison::{check, inputs, Answer, Tally, MODES};
+use reference::generate::Random;
+use reference::Mode;
+
+const SEEDS: u64 = 240_000;
+
+/// Compares the answers for one input.
+fn compare(bundle: &[u8], mode: Mode) -> Answer {
+    let answer = check(bundle, mode);
+    let expected = Answer::from(reference::check(bundle, mode));
+    assert_eq!(answer, expected, "{mode:?}: {bundle:02X?}");
+    answer
+}
+
+#[test]
+fn generated_inputs() {
+    let mut tally = Tally::default();
+    for seed in 0..SEEDS {
+        let bundle = inputs::bundle(&mut Random::new(seed));
+        for mode in MODES {
+            tally.add(mode, compare(&bundle, mode));
+        }
+    }
+    tally.assert_complete();
+}
+
+#[test]
+fn short_inputs() {
+    for bundle in inputs::short() {
+        for mode in MODES {
+            compare(&bundle, mode);
+        }
+    }
+}

@@ -1,0 +1,103 @@
+//! `nachricht_read` answers what the reference answers and leaves the same rows, in both modes.
+
+use comparison::{inputs, read, Answer, Row, Tally, MODES};
+use reference::generate::Random;
+use reference::Mode;
+
+const SEEDS: u64 = 200_000;
+
+/// These after them, each with a table of every length of note.
+const SEEDS_FOR_ALL_LENGTHS: u64 = 4_000;
+
+/// Rows before the table and after it, which no call may change.
+const GUARDS: usize = 3;
+
+/// No reader writes this row, since it has no kind of a row.
+const UNTOUCHED: Row = Row {
+    kind: 0xA5,
+    number: 0xA5A5_A5A5_A5A5_A5A5,
+    start: 0x5A5A,
+};
+
+/// Lengths of a table at which the answer may change, for a bundle of so many rows.
+fn lengths(rows: usize) -> [usize; 10] {
+    let fewer = rows.saturating_sub(1);
+    [
+        0,
+        1,
+        fewer,
+        rows,
+        rows + 1,
+        1_022,
+        1_023,
+        1_024,
+        1_025,
+        1_100,
+    ]
+}
+
+/// The rows of a bundle, or some number that a bad one may have reached.
+fn rows_of(bundle: &[u8], mode: Mode, random: &mut Random) -> usize {
+    match reference::check(bundle, mode) {
+        Ok(counts) => counts.rows,
+        Err(_) => random.below(bundle.len().min(1_024) + 1),
+    }
+}
+
+/// Compares the answers, and tables of this length with the guards around them.
+fn compare(bundle: &[u8], mode: Mode, length: usize) -> Answer {
+    let mut rows = vec![reference::Row::default(); length];
+    let result = reference::read(bundle, mode, &mut rows);
+    let written = result.map_or(0, |counts| counts.rows);
+    let mut expected = vec![UNTOUCHED; length + 2 * GUARDS];
+    for (place, row) in rows[..written].iter().enumerate() {
+        expected[GUARDS + place] = Row::from(*row);
+    }
+    let mut table = vec![UNTOUCHED; length + 2 * GUARDS];
+    let answer = read(bundle, mode, &mut table[GUARDS..GUARDS + length]);
+    let input = || format!("{mode:?}, {length} rows: {bundle:02X?}");
+    assert_eq!(answer, Answer::from(result), "{}", input());
+    assert!(table == expected, "rows differ, {}", input());
+    answer
+}
+
+#[test]
+fn generated_inputs() {
+    let mut tally = Tally::default();
+    for seed in 0..SEEDS {
+        let random = &mut Random::new(seed);
+        let bundle = inputs::bundle(random);
+        for mode in MODES {
+            let lengths = lengths(rows_of(&bundle, mode, random));
+            let length = random.pick(&lengths);
+            tally.add(mode, compare(&bundle, mode, length));
+        }
+    }
+    tally.assert_complete();
+}
+
+#[test]
+fn all_lengths() {
+    let mut tally = Tally::default();
+    for seed in SEEDS..SEEDS + SEEDS_FOR_ALL_LENGTHS {
+        let random = &mut Random::new(seed);
+        let bundle = inputs::bundle(random);
+        for mode in MODES {
+            for length in lengths(rows_of(&bundle, mode, random)) {
+                tally.add(mode, compare(&bundle, mode, length));
+            }
+        }
+    }
+    tally.assert_complete();
+}
+
+#[test]
+fn short_inputs() {
+    for bundle in inputs::short() {
+        for mode in MODES {
+            for length in 0..4 {
+                compare(&bundle, mode, length);
+            }
+        }
+    }
+}
