@@ -227,7 +227,7 @@ fn name(
         return Out::Bad(Error::Truncated);
     }
     let e = next + p as usize;
-    if !wire::utf8::is_utf8(&s[next..e]) {
+    if !wire::utf8::is_utf8_name(&s[next..e]) {
         return Out::Bad(Error::InvalidUtf8);
     }
     if strict {

@@ -219,3 +219,18 @@ pub fn is_utf8(s: &[u8]) -> bool
     }
     long(s)
 }
+
+// The same for names, which are mostly short ASCII: small enough to be compiled into its caller.
+pub fn is_utf8_name(s: &[u8]) -> bool
+    ensures { λ r. ⌜ r ≡ utf8 (now (s .entry)) ⌝ }
+{
+    let n = s.len();
+    if 16 <= n {
+        if n <= 32 {
+            if ascii_ends(s, 16) {
+                return true;
+            }
+        }
+    }
+    is_utf8(s)
+}

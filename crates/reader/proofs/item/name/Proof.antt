@@ -10,7 +10,7 @@ use Rattle.format.proofs.header.ByteLength.of.Reads as of-reads
 use Rattle.reader.proofs.item.again.Reads as again-reads
 use Rattle.reader.proofs.item.any_name.Reads as any-name-reads
 use Rattle.reader.proofs.item.new_name.Reads as new-name-reads
-use Rattle.wire.proofs.utf8.is_utf8.Reads as is-utf8-reads
+use Rattle.wire.proofs.utf8.is_utf8.Reads as is-utf8-name-reads
 
 add-kind : tie.Need-add-kind
 add-kind c = search needs
@@ -35,33 +35,33 @@ returns-2 c = (λ at depth l. tt, λ o a at so cs. content-cut cs _ (c .before .
 add-e : tie.Need-add-e
 add-e c = search needs
 
-sub-is-utf8 : tie.Need-sub-is-utf8
-sub-is-utf8 c = search needs
+sub-is-utf8-name : tie.Need-sub-is-utf8-name
+sub-is-utf8-name c = search needs
 
-part-is-utf8-start : tie.Need-part-is-utf8-start
-part-is-utf8-start c = search needs
+part-is-utf8-name-start : tie.Need-part-is-utf8-name-start
+part-is-utf8-name-start c = search needs
 
-part-is-utf8-end : tie.Need-part-is-utf8-end
-part-is-utf8-end c = search needs
+part-is-utf8-name-end : tie.Need-part-is-utf8-name-end
+part-is-utf8-name-end c = search needs
 
-is-utf8-requires : tie.Need-is-utf8-requires
-is-utf8-requires c κs = search needs
+is-utf8-name-requires : tie.Need-is-utf8-name-requires
+is-utf8-name-requires c κs = search needs
 
 returns-3 : tie.Need-returns-3
 unfolding isKey
-returns-3 c = (λ at depth l. tt, λ o a at so cs. content-text cs _ (c .before .before .before .before .of .ensures) _ (c .before .before .before .before .before .before .before .before .before .pre .0 .form) (name-plain (c .before .before .before .before .before .before .before .before .before .pre .0)) (sym (c .before .before .before .before .before .before .again .ensures) ∙ c .before .before .before .before .before .if1 .left) (c .before .before .before .if2 .left) (name-text (c .before .before .before .before .before .before .before .before .before .args .s .now) (c .before .before .before .before .before .before .before .before .before .args .next) _ (c .before .before .before .before .before .before .before .before .before .pre .0) (c .before .is-utf8 .ensures) ∙ c .if3 .taken))
+returns-3 c = (λ at depth l. tt, λ o a at so cs. content-text cs _ (c .before .before .before .before .of .ensures) _ (c .before .before .before .before .before .before .before .before .before .pre .0 .form) (name-plain (c .before .before .before .before .before .before .before .before .before .pre .0)) (sym (c .before .before .before .before .before .before .again .ensures) ∙ c .before .before .before .before .before .if1 .left) (c .before .before .before .if2 .left) (name-text (c .before .before .before .before .before .before .before .before .before .args .s .now) (c .before .before .before .before .before .before .before .before .before .args .next) _ (c .before .before .before .before .before .before .before .before .before .pre .0) (c .before .is-utf8-name .ensures) ∙ c .if3 .taken))
 
 new-name-requires : tie.Need-new-name-requires
 new-name-requires c κs = (omega (arith, c .before .before .before .before .before .before .before .before .before .before .before .before .pre .0 .high), omega (arith, c .before .before .before .before .before .before .before .before .before .before .before .before .pre .0 .last), omega arith, omega arith, c .before .before .before .before .before .before .before .before .before .before .before .before .pre .2, c .before .before .before .before .before .before .before .before .before .before .before .before .pre .3 .chained (c .before .before .if4 .taken))
 
 returns-4 : tie.Need-returns-4
-returns-4 c = (λ at depth l. name-moves (c .before .before .before .if4 .taken) at depth (omega arith) (omega arith) (c .new-name .ensures), λ o a at so cs. name-judged (c .before .before .before .before .before .before .before .before .before .before .before .before .before .pre .0) (so ∙ c .before .before .before .if4 .taken) cs _ (c .before .before .before .before .before .before .before .before .of .ensures) (c .before .before .before .before .before .before .before .before .before .before .before .before .before .pre .3 .size) (c .before .before .before .before .before .before .before .before .before .before .before .before .before .pre .3 .few) (sym (c .before .before .before .before .before .before .before .before .before .before .again .ensures) ∙ c .before .before .before .before .before .before .before .before .before .if1 .left) (c .before .before .before .before .before .before .before .if2 .left) (name-text (c .before .before .before .before .before .before .before .before .before .before .before .before .before .args .s .now) (c .before .before .before .before .before .before .before .before .before .before .before .before .before .args .next) _ (c .before .before .before .before .before .before .before .before .before .before .before .before .before .pre .0) (c .before .before .before .before .before .is-utf8 .ensures) ∙ c .before .before .before .before .if3 .left) (c .new-name .ensures))
+returns-4 c = (λ at depth l. name-moves (c .before .before .before .if4 .taken) at depth (omega arith) (omega arith) (c .new-name .ensures), λ o a at so cs. name-judged (c .before .before .before .before .before .before .before .before .before .before .before .before .before .pre .0) (so ∙ c .before .before .before .if4 .taken) cs _ (c .before .before .before .before .before .before .before .before .of .ensures) (c .before .before .before .before .before .before .before .before .before .before .before .before .before .pre .3 .size) (c .before .before .before .before .before .before .before .before .before .before .before .before .before .pre .3 .few) (sym (c .before .before .before .before .before .before .before .before .before .before .again .ensures) ∙ c .before .before .before .before .before .before .before .before .before .if1 .left) (c .before .before .before .before .before .before .before .if2 .left) (name-text (c .before .before .before .before .before .before .before .before .before .before .before .before .before .args .s .now) (c .before .before .before .before .before .before .before .before .before .before .before .before .before .args .next) _ (c .before .before .before .before .before .before .before .before .before .before .before .before .before .pre .0) (c .before .before .before .before .before .is-utf8-name .ensures) ∙ c .before .before .before .before .if3 .left) (c .new-name .ensures))
 
 any-name-requires : tie.Need-any-name-requires
 any-name-requires c κs = (omega (arith, c .before .before .before .before .before .before .before .before .before .before .before .pre .0 .high), omega (arith, c .before .before .before .before .before .before .before .before .before .before .before .pre .0 .last), omega arith, omega (arith, c .before .before .before .before .before .before .before .before .before .before .before .pre .2), c .before .before .before .before .before .before .before .before .before .before .before .pre .3 .few)
 
 returns-5 : tie.Need-returns-5
-returns-5 c = (λ at depth l. name-moves (c .before .before .if4 .left) at depth (omega arith) (omega arith) (c .any-name .ensures (c .before .before .before .before .before .before .before .before .before .before .before .before .args .s .now) (c .before .before .before .before .before .before .before .before .before .before .before .before .args .links .now) (omega arith) (fair-plain (c .before .before .before .before .before .before .before .before .before .before .before .before .pre .3))), λ o a at so cs. name-judged (c .before .before .before .before .before .before .before .before .before .before .before .before .pre .0) (so ∙ c .before .before .if4 .left) cs _ (c .before .before .before .before .before .before .before .of .ensures) (c .before .before .before .before .before .before .before .before .before .before .before .before .pre .3 .size) (c .before .before .before .before .before .before .before .before .before .before .before .before .pre .3 .few) (sym (c .before .before .before .before .before .before .before .before .before .again .ensures) ∙ c .before .before .before .before .before .before .before .before .if1 .left) (c .before .before .before .before .before .before .if2 .left) (name-text (c .before .before .before .before .before .before .before .before .before .before .before .before .args .s .now) (c .before .before .before .before .before .before .before .before .before .before .before .before .args .next) _ (c .before .before .before .before .before .before .before .before .before .before .before .before .pre .0) (c .before .before .before .before .is-utf8 .ensures) ∙ c .before .before .before .if3 .left) (c .any-name .ensures (c .before .before .before .before .before .before .before .before .before .before .before .before .args .s .now) (c .before .before .before .before .before .before .before .before .before .before .before .before .args .links .now) (omega arith) (fair-plain (c .before .before .before .before .before .before .before .before .before .before .before .before .pre .3))))
+returns-5 c = (λ at depth l. name-moves (c .before .before .if4 .left) at depth (omega arith) (omega arith) (c .any-name .ensures (c .before .before .before .before .before .before .before .before .before .before .before .before .args .s .now) (c .before .before .before .before .before .before .before .before .before .before .before .before .args .links .now) (omega arith) (fair-plain (c .before .before .before .before .before .before .before .before .before .before .before .before .pre .3))), λ o a at so cs. name-judged (c .before .before .before .before .before .before .before .before .before .before .before .before .pre .0) (so ∙ c .before .before .if4 .left) cs _ (c .before .before .before .before .before .before .before .of .ensures) (c .before .before .before .before .before .before .before .before .before .before .before .before .pre .3 .size) (c .before .before .before .before .before .before .before .before .before .before .before .before .pre .3 .few) (sym (c .before .before .before .before .before .before .before .before .before .again .ensures) ∙ c .before .before .before .before .before .before .before .before .if1 .left) (c .before .before .before .before .before .before .if2 .left) (name-text (c .before .before .before .before .before .before .before .before .before .before .before .before .args .s .now) (c .before .before .before .before .before .before .before .before .before .before .before .before .args .next) _ (c .before .before .before .before .before .before .before .before .before .before .before .before .pre .0) (c .before .before .before .before .is-utf8-name .ensures) ∙ c .before .before .before .if3 .left) (c .any-name .ensures (c .before .before .before .before .before .before .before .before .before .before .before .before .args .s .now) (c .before .before .before .before .before .before .before .before .before .before .before .before .args .links .now) (omega arith) (fair-plain (c .before .before .before .before .before .before .before .before .before .before .before .before .pre .3))))
 
 pub name-spec : {M : Type 1} → statement M
 name-spec =
@@ -74,10 +74,10 @@ name-spec =
     sub-if2
     returns-2
     add-e
-    sub-is-utf8
-    part-is-utf8-start
-    part-is-utf8-end
-    is-utf8-requires
+    sub-is-utf8-name
+    part-is-utf8-name-start
+    part-is-utf8-name-end
+    is-utf8-name-requires
     returns-3
     new-name-requires
     returns-4
