@@ -4,20 +4,21 @@ use mathlib.Core.Logic.{_≢_, _⊎_, ⊎-elim}
 use mathlib.Core.Bool.{Bool, false}
 use mathlib.Core.List.{List}
 use mathlib.Core.Option.{some}
-use Prim.Native.Nat.{ℕ, zero, suc, _+_, _≤_, _<_}
+use Prim.Native.Nat.{ℕ, zero, suc, _+_, _-_, _^_, _≤_, _<_}
 use native.Mathlib.Omega.{arith}
 use lib.Dec.{leb}
 use lib.ListN.{length, drop, getD, length-drop}
 use Rattle.format.specs.declared.header.Header.{Header}
 use Rattle.format.specs.Choice.{_&&_, _||_}
 use Rattle.format.specs.Answer.{Answer}
-use Rattle.format.specs.Header.{headerOf, isLong, isNegativeAlias}
+use Rattle.format.specs.Limits.{max-inline}
+use Rattle.format.specs.Header.{following, headerOf, isLong, isNegativeAlias}
 use Rattle.format.specs.WellFormed.{Byte}
 use Rattle.format.specs.Reading.{Options, State, headed, item}
-use Rattle.format.proofs.Tests.{clash, leb-yes, and-yes}
+use Rattle.format.proofs.Tests.{clash, eqb-no, leb-yes, ltb-no, and-yes, and-no-left, and-no-right, or-no}
 use Rattle.format.proofs.Lists.{all-drop}
 use Rattle.format.proofs.Numbers.{bytes-of}
-use Rattle.format.proofs.Headers.{size-within, headed-of}
+use Rattle.format.proofs.Headers.{following-none, size-within, headed-of}
 use Rattle.reader.specs.declared.item.Out.{Out}
 use Rattle.reader.specs.Judging.{Fair, Stands, Moved, Judged, Case}
 use Rattle.reader.proofs.Ladder.{whole}
@@ -36,6 +37,15 @@ standing s at h l b e =
       some = omega (arith, w .0);
       codes = headed-of (drop at s) h (all-drop Byte at s (bytes-of s (λ i _. b i))) (sym e) .codes;
     }
+
+-- A header of one byte is the shortest, and no alias.
+pub one-byte : (s : List ℕ) (at : ℕ) (h : Header) → ((i : ℕ) → getD s i 0 < 256) → some h ≡ headerOf (drop at s) → h .size ≡ 1 → isLong h || isNegativeAlias h ≡ false
+unfolding isLong isNegativeAlias
+one-byte s at h b e z =
+    let d = headed-of (drop at s) h (all-drop Byte at s (bytes-of s (λ i _. b i))) (sym e) in
+    let n : following (h .code) (h .sz) ≡ 0 = omega (arith, d .size) in
+    let l = following-none (h .code) (h .sz) n in
+    or-no (and-no-left _ (ltb-no {a = max-inline} {b = h .sz} (omega arith))) (and-no-right _ (eqb-no {a = h .payload} {b = 2 ^ 64 - 1} (λ q. absurd (omega (arith, d .inside n)))))
 
 pub past-header : {strict : Bool} {s es links : List ℕ} {at names : ℕ} {h : Header} → Standing s at h → Fair strict s es links names → Moved strict s es links at (at + h .size) names
 past-header st f = record { on = omega (arith, st .some); within = st .inside; fair = f }

@@ -37,8 +37,13 @@ pub enum Out {
 
 // Strict only: a header that is longer than it has to be, or the negative alias.
 fn wasteful(strict: bool, h: Header) -> bool
+    requires { ⌜ (h .size ≡ 1 → isLong h || isNegativeAlias h ≡ false) ⌝ }
     ensures { λ r. ⌜ r ≡ (strict && (isLong h || isNegativeAlias h)) ⌝ }
 {
+    let size = h.size;
+    if size == 1 {
+        return false;
+    }
     if !strict {
         return false;
     }

@@ -5,7 +5,7 @@ use mathlib.Core.Logic.{⊎-elim, inl, inr}
 use Rattle.reader.proofs.Ladder.{waste}
 use Rattle.reader.proofs.Flat.{fixed-value, plain-small, plain-integer}
 use Rattle.reader.proofs.Contents.{body-bytes, body-string, name-of}
-use Rattle.reader.proofs.Heads.{standing, past-header, case, is-zero}
+use Rattle.reader.proofs.Heads.{standing, one-byte, past-header, case, is-zero}
 use borrow.Author.Needs.{needs}
 use Rattle.reader.proofs.item.judge.Statement.{statement}
 use Rattle.reader.proofs.item.judge.Tie as tie
@@ -17,7 +17,7 @@ use Rattle.reader.proofs.item.reference.Reads as reference-reads
 use Rattle.reader.proofs.item.wasteful.Reads as wasteful-reads
 
 wasteful-requires : tie.Need-wasteful-requires
-wasteful-requires c κs = search needs
+wasteful-requires c κs = one-byte (c .before .args .s .now) (c .before .args .at) _ (λ i. omega (arith, c .shared-slice-known .given i)) (c .before .pre .0)
 
 returns : tie.Need-returns
 returns c = (tt, λ o a so hold d. waste o a _ _ so (sym (c .before .wasteful .ensures) ∙ c .if1 .taken))

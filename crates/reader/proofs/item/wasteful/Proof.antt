@@ -2,31 +2,33 @@
 use mathlib.Core.Path.{sym, _∙_}
 use Rattle.format.specs.Choice.{_&&_, _||_}
 use Rattle.format.specs.Header.{isNegativeAlias}
-use Rattle.format.proofs.Tests.{eqb-yes, eqb-no}
+use Rattle.format.proofs.Tests.{eqb-yes, eqb-no, and-no-right}
 use borrow.Author.Tests.{not-true, not-false}
 use borrow.Author.Needs.{needs}
 use Rattle.reader.proofs.item.wasteful.Statement.{statement}
 use Rattle.reader.proofs.item.wasteful.Tie as tie
-use Rattle.wire.proofs.header.is_long.Reads as is-long-reads
 
 returns : tie.Need-returns
-unfolding _&&_ _||_ isNegativeAlias
-returns c = rw (not-true (c .before .args .strict) (c .if1 .taken))
+returns c = sym (and-no-right _ (c .before .pre (c .if1 .taken)))
+
+returns-2 : tie.Need-returns-2
+unfolding _&&_
+returns-2 c = rw (not-true (c .before .before .args .strict) (c .if2 .taken))
 
 is-long-requires : tie.Need-is-long-requires
 is-long-requires c κs = search needs
 
-returns-2 : tie.Need-returns-2
-unfolding _&&_ _||_ isNegativeAlias
-returns-2 c = rw (not-false (c .before .before .before .args .strict) (c .before .before .if1 .left), sym (c .before .is-long .ensures) ∙ c .if2 .taken)
-
 returns-3 : tie.Need-returns-3
 unfolding _&&_ _||_ isNegativeAlias
-returns-3 c = rw (not-false (c .before .before .before .before .args .strict) (c .before .before .before .if1 .left), sym (c .before .before .is-long .ensures) ∙ c .before .if2 .left, eqb-yes (c .if3 .taken))
+returns-3 c = rw (not-false (c .before .before .before .before .args .strict) (c .before .before .if2 .left), sym (c .before .is-long .ensures) ∙ c .if3 .taken)
 
 returns-4 : tie.Need-returns-4
 unfolding _&&_ _||_ isNegativeAlias
-returns-4 c = rw (not-false (c .before .before .before .before .args .strict) (c .before .before .before .if1 .left), sym (c .before .before .is-long .ensures) ∙ c .before .if2 .left, eqb-no (c .if3 .left))
+returns-4 c = rw (not-false (c .before .before .before .before .before .args .strict) (c .before .before .before .if2 .left), sym (c .before .before .is-long .ensures) ∙ c .before .if3 .left, eqb-yes (c .if4 .taken))
+
+returns-5 : tie.Need-returns-5
+unfolding _&&_ _||_ isNegativeAlias
+returns-5 c = rw (not-false (c .before .before .before .before .before .args .strict) (c .before .before .before .if2 .left), sym (c .before .before .is-long .ensures) ∙ c .before .if3 .left, eqb-no (c .if4 .left))
 
 pub wasteful-spec : {M : Type 1} → statement M
-wasteful-spec = tie.close (tie.spec returns is-long-requires returns-2 returns-3 returns-4)
+wasteful-spec = tie.close (tie.spec returns returns-2 is-long-requires returns-3 returns-4 returns-5)
