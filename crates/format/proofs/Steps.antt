@@ -2,7 +2,7 @@
 -- Assumes nothing.
 use mathlib.Core.Path.{_≡_, refl, sym, ap, _∙_, subst}
 use Prim.Native.Nat.{ℕ, zero, suc, _+_, _-_, _≤_, _<_, min}
-use native.Mathlib.Nat.{le-refl}
+use native.Mathlib.Nat.{le-refl, le-of-lt, add-sub-of-le}
 use native.Mathlib.Omega.{arith}
 use mathlib.Core.Bool.{true, false, not}
 use mathlib.Core.List.{List, [], _∷_, _++_, append-assoc, append-nil}
@@ -123,6 +123,11 @@ unfolding after
 step-left {s = s} {bs = bs} p =
     let e : after s (p .h) (formOf (p .h)) (p .x) .at - s .at ≡ p .h .size + pick (isContent (formOf (p .h))) (p .h .payload) 0 = omega arith in
     p .left ∙ rw (p .next, e)
+
+-- Bytes that are left of a whole stay so.
+pub step-drop : {o : Options} {s t : State} {bs rest : List ℕ} (whole : List ℕ) → bs ≡ drop (s .at) whole → Step o s bs t rest → rest ≡ drop (t .at) whole
+step-drop {s = s} {t = t} whole e p =
+    p .left ∙ ap (drop (t .at - s .at)) e ∙ drop-drop (t .at - s .at) (s .at) whole ∙ ap (λ (k : ℕ). drop k whole) (add-sub-of-le (le-of-lt (step-forward p)))
 
 -- A step makes an entry for a name in full, and no other.
 pub by-entry {ℓ} : {X : Type ℓ} {o : Options} {s t : State} {bs rest : List ℕ} (p : Step o s bs t rest)

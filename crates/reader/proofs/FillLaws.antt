@@ -68,9 +68,9 @@ form-fixed h l u =
     (λ e. (7, min (h .payload) (2 ^ 64 - 2), rw e, rw e))
     (λ b. let e : h .code ≡ 3 = omega arith in (8, h .payload, rw e, rw e))))
 
-pub entry-is : (es : List ℕ) (p : ℕ) {i : ℕ} → i ≡ clamped 255 p → let e = getD es i 0 in rowOf (kindIn e) (lengthIn e) (startIn e) ≡ entryRow es p
+pub entry-row-is : (es : List ℕ) (p : ℕ) {i : ℕ} → i ≡ clamped 255 p → let e = getD es i 0 in rowOf (kindIn e) (lengthIn e) (startIn e) ≡ entryRow es p
 unfolding entryRow
-entry-is es p e = rw e
+entry-row-is es p e = rw e
 
 -- ---- the row and the table of a form
 

@@ -55,8 +55,7 @@ module _ (s es : List ℕ) (names kind next e : ℕ) (lo : 10 ≤ kind) (hi : ki
   pub plain-entered : (links : List ℕ) {r : Out} → names < 256 → r ≡ freshOf kind e → Entered false s es (set es names plain) links names kind next e r
   unfolding _&&_
   plain-entered links l q =
-      let v : plain ≡ (next * 2) * 281474976710656 + ((e - next) * 2 + (kind - 10)) = omega arith in
-      let p : Packed plain next 0 (e - next) kind = subst (λ (n : ℕ). Packed n next 0 (e - next) kind) (sym v) (packed-plain next (e - next) kind (omega arith) lo hi) in
+      let p : Packed plain next 0 (e - next) kind = packed-plain next (e - next) kind (omega arith) lo hi in
       entered refl l q (entries-more s es names size (omega arith) plain l ∙ ap (λ (x : Found). entriesOf s es names ++ (x ∷ [])) (found-packed s p))
       (record { few = omega arith; size = length-set es names plain ∙ size; chained = λ z. clash z refl })
 

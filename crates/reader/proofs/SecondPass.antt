@@ -3,8 +3,7 @@ use mathlib.Core.Path.{_≡_, refl, ap, ap₂, sym, subst, _∙_}
 use mathlib.Core.Bool.{true, false}
 use mathlib.Core.List.{List, [], _∷_, _++_, map, append-assoc, append-nil}
 use mathlib.Core.Option.{some}
-use Prim.Native.Nat.{ℕ, _+_, _-_, _*_, _≤_, _<_}
-use native.Mathlib.Nat.{add-sub-of-le, le-of-lt}
+use Prim.Native.Nat.{ℕ, _+_, _≤_, _<_}
 use native.Mathlib.Omega.{arith}
 use lib.Dec.{leb, ltb}
 use lib.ListN.{length, drop, set, getElem?, replicate, length-drop, length-set, length-map, length-replicate}
@@ -20,7 +19,7 @@ use Rattle.format.specs.Reading.{Options, State, Found, Form, fixed, content, r
 use Rattle.format.specs.Rows.{rowOf, rows}
 use Rattle.format.proofs.Tests.{cases, order, leb-true, leb-false, ltb-yes, ltb-false, and-right, some-inj, none-some}
 use Rattle.format.proofs.Forms.{FormIs, held, form-is}
-use Rattle.format.proofs.Steps.{Step, Reads, done, more, step-found, step-forward}
+use Rattle.format.proofs.Steps.{Step, Reads, done, more, step-drop, step-found}
 use Rattle.format.proofs.Bounds.{reads-rows}
 use Rattle.format.proofs.ReadBack.{reading-reads}
 use Rattle.symbols.specs.Entry.{nameIn}
@@ -79,9 +78,7 @@ module _ (bytes : List ℕ) (short : length bytes ≤ max-bytes) where
       by-name : leb 10 k ≡ true → names < 256 → Fills (content k)
       unfolding filledForm tableForm isContent _&&_ pick packed
       by-name n l =
-          let v : packed k next (h .payload) ≡ (next * 2) * 281474976710656 + (h .payload * 2 + (k - 10)) = omega arith in
-          let p : Packed (packed k next (h .payload)) next 0 (h .payload) k =
-          subst (λ (e : ℕ). Packed e next 0 (h .payload) k) (sym v) (packed-plain next (h .payload) k within (leb-true 10 k n) hi) in
+          let p : Packed (packed k next (h .payload)) next 0 (h .payload) k = packed-plain next (h .payload) k within (leb-true 10 k n) hi in
           let entry = packed k next (h .payload) in
           let q : E ++ (x ∷ []) ≡ entriesOf bytes (set es names entry) (names + 1) =
           ap₂ (λ (l : List Found) (y : Found). l ++ (y ∷ [])) (t .is) (sym e ∙ sym (found-packed bytes p)) ∙ sym (entries-more bytes es names (t .size) (t .few) entry l) in
@@ -132,7 +129,7 @@ module _ (bytes : List ℕ) (short : length bytes ≤ max-bytes) where
     next-follows =
         record {
           offset = rw (there, q .offset, p .next) (filled .1);
-          left = p .left ∙ ap (drop (t .at - s .at)) (q .left) ∙ drop-drop (t .at - s .at) (s .at) bytes ∙ ap (λ (k : ℕ). drop k bytes) (add-sub-of-le (le-of-lt (step-forward p)));
+          left = step-drop bytes (q .left) p;
           table = rw (there, q .offset, p .next) (filled .2);
         }
 

@@ -32,9 +32,6 @@ entryRow es p = let e = getD es (clamped 255 p) 0 in rowOf (kindIn e) (lengthIn 
 unfoldable pub packed : ℕ → ℕ → ℕ → ℕ
 packed kind next len = next * 562949953421312 + (len * 2 + (kind - 10))
 
-abbrev pub formIn : ℕ → Form
-formIn kind = content kind
-
 -- By the form of a header, where next is its end and p its payload.
 unfoldable pub filledForm : List ℕ → ℕ → ℕ → ℕ → Form → Filled
 filledForm es next names p (fixed k n) = record { at = next; names = names; row = rowOf k n 0 }

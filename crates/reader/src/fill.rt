@@ -3,8 +3,9 @@ ghost use mathlib.Core.Path.{_≡_};
 ghost use Prim.Native.Nat.{_+_, _≤_, _<_};
 ghost use mathlib.Core.List.{_++_};
 ghost use lib.ListN.{length, drop};
-ghost use Rattle.format.specs.Reading.{formOf};
-ghost use Rattle.reader.specs.Filling.{clamped, fixedRow, entryRow, filledForm, tableForm, filledNext, tableNext, formIn, rowsFrom, begin};
+ghost use Rattle.format.specs.Reading.{content, formOf};
+ghost use Rattle.reader.specs.Filling.{clamped, fixedRow, entryRow, filledForm, tableForm, filledNext, tableNext, rowsFrom, begin};
+use format::Bundle;
 use format::Header;
 use format::Row;
 use format::SymbolTable;
@@ -53,7 +54,7 @@ fn fixed_row(h: Header) -> Row
 fn entry_row(p: u64, entries: &[u64; SymbolTable::MAX_ENTRIES]) -> Row
     ensures { λ r. ⌜ r ≡ entryRow (now (entries .entry)) p ⌝ }
 {
-    let i = clamp(255, p);
+    let i = clamp(SymbolTable::MAX_ENTRIES as u64 - 1, p);
     let e = entries[i];
     Row::new(
         (10 + e % 2) as u8,
@@ -71,10 +72,10 @@ fn content_row(
     entries: &mut [u64; SymbolTable::MAX_ENTRIES],
 ) -> Filled
     requires { ⌜ (next ≤ 16384) × (kind ≤ 11) ⌝ }
-    ensures row { λ r. ⌜ r ≡ filledForm (now (entries .entry)) next names p (formIn kind) ⌝ }
-    ensures table { λ r. ⌜ now (entries .exit) ≡ tableForm (now (entries .entry)) next names p (formIn kind) ⌝ }
+    ensures row { λ r. ⌜ r ≡ filledForm (now (entries .entry)) next names p (content kind) ⌝ }
+    ensures table { λ r. ⌜ now (entries .exit) ≡ tableForm (now (entries .entry)) next names p (content kind) ⌝ }
 {
-    let len = clamp(16384, p);
+    let len = clamp(Bundle::MAX_BYTES as u64, p);
     if kind < 10 {
         return Filled {
             at: next + len,

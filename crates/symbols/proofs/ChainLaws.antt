@@ -2,19 +2,17 @@
 use mathlib.Core.Path.{_≡_, refl, ap, sym, _∙_}
 use mathlib.Core.Logic.{_≢_}
 use mathlib.Core.Bool.{true, false}
-use mathlib.Core.List.{List, [], _∷_, _++_}
+use mathlib.Core.List.{List, [], _∷_}
 use mathlib.Core.Option.{Option, none, some}
 use Prim.Native.Nat.{ℕ, zero, suc, _+_, _-_, _≤_, _<_}
 use native.Mathlib.Nat.{add-zero, zero-add}
-use native.Mathlib.Numerals.{add-one}
 use native.Mathlib.Omega.{arith}
-use lib.ListN.{length, take, getD, set, replicate, length-map, length-set, length-replicate, getD-replicate}
-use lib.Seq.{take-suc-set, getD-take, length-take-le, getD-set-same, getD-set-other}
+use lib.ListN.{length, take, getD, set, replicate, length-set, length-replicate, getD-replicate}
+use lib.Seq.{getD-take, length-take-le, getD-set-same, getD-set-other}
 use Rattle.format.specs.Item.{Item}
 use Rattle.format.specs.Names.{sameName, indexFrom, index}
 use Rattle.format.proofs.Tests.{cases, clash, equal, order, eqb-true, and-true, pick-yes, pick-no, none-some}
 use Rattle.format.proofs.Names.{same-true}
-use Rattle.format.proofs.Lists.{map-append}
 use Rattle.symbols.specs.Entry.{keyOf, keyIn, name, nameIn, namesIn, Sound}
 use Rattle.symbols.specs.Chains.{foundOf, Table, bucket, Chained}
 use Rattle.symbols.specs.declared.lookup.Lookup.the-variants.{At, Nothing}
@@ -49,15 +47,6 @@ same-via x a b e =
     let k : x .kind ≡ a .kind = eqb-true _ _ p in
     let c : x .content ≡ a .content = same-true _ _ q in
     rw (k, c)
-
-pub length-names : (a b es : List ℕ) (count : ℕ) → count ≤ length es → length (namesIn a b (take count es)) ≡ count
-unfolding namesIn
-length-names a b es count le = length-map (take count es) (nameIn a b) ∙ length-take-le count es le
-
-pub names-more : (a b es : List ℕ) (count e : ℕ) → count < length es
-    → namesIn a b (take (count + 1) (set es count e)) ≡ namesIn a b (take count es) ++ (nameIn a b e ∷ [])
-unfolding namesIn
-names-more a b es count e l = rw (add-one, take-suc-set es count e l) (map-append (nameIn a b) (take count es) (e ∷ []))
 
 -- ---- the search of all entries
 

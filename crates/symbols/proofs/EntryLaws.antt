@@ -67,7 +67,7 @@ packed e start side m len kind is ml si short lo hi =
     record { start-is = omega arith; side-is = omega arith; length-is = omega arith; kind-is = omega arith }
 
 -- with no mark, as lenient reading stores it
-pub packed-plain : (start len kind : ℕ) → len ≤ 16384 → 10 ≤ kind → kind ≤ 11 → Packed ((start * 2) * 281474976710656 + (len * 2 + (kind - 10))) start 0 len kind
+pub packed-plain : (start len kind : ℕ) → len ≤ 16384 → 10 ≤ kind → kind ≤ 11 → Packed (start * 562949953421312 + (len * 2 + (kind - 10))) start 0 len kind
 packed-plain start len kind = packed _ start 0 0 len kind (omega arith) (omega arith) (omega arith)
 
 -- with a name's mark

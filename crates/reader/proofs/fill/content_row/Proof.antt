@@ -1,4 +1,4 @@
--- `reader::fill::content_row` meets its contract: no name, no entry left, or an entry made. Assumes nothing.
+-- `content_row` makes no entry for what is no name or where none is left, and else one. Assumes nothing.
 use Rattle.reader.proofs.FillLaws.{content-plain, content-full, content-entered}
 use borrow.Author.Needs.{needs}
 use Rattle.reader.proofs.fill.content_row.Statement.{statement}
@@ -7,8 +7,8 @@ use Rattle.reader.proofs.fill.content_row.Tie as tie
 clamp-requires : tie.Need-clamp-requires
 clamp-requires c κs = search needs
 
-add-t8 : tie.Need-add-t8
-add-t8 c = search needs
+add-t9 : tie.Need-add-t9
+add-t9 c = search needs
 
 new-requires : tie.Need-new-requires
 new-requires c κs = search needs
@@ -16,8 +16,8 @@ new-requires c κs = search needs
 returns : tie.Need-returns
 returns c = content-plain _ _ _ _ _ (c .before .before .clamp .ensures .0) (c .new .ensures) (c .before .if1 .taken)
 
-add-t10 : tie.Need-add-t10
-add-t10 c = search needs
+add-t11 : tie.Need-add-t11
+add-t11 c = search needs
 
 new-requires-2 : tie.Need-new-requires-2
 new-requires-2 c κs = search needs
@@ -63,10 +63,10 @@ content-row-spec =
     tie.close
     (tie.spec
     clamp-requires
-    add-t8
+    add-t9
     new-requires
     returns
-    add-t10
+    add-t11
     new-requires-2
     returns-2
     mul-entries

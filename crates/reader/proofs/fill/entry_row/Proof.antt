@@ -1,9 +1,12 @@
--- `reader::fill::entry_row` meets its contract. Assumes nothing.
+-- `entry_row` is the row of the entry at a clamped index. Assumes nothing.
 use mathlib.Core.Path.{_∙_}
-use Rattle.reader.proofs.FillLaws.{entry-is}
+use Rattle.reader.proofs.FillLaws.{entry-row-is}
 use borrow.Author.Needs.{needs}
 use Rattle.reader.proofs.fill.entry_row.Statement.{statement}
 use Rattle.reader.proofs.fill.entry_row.Tie as tie
+
+sub-clamp : tie.Need-sub-clamp
+sub-clamp c = search needs
 
 clamp-requires : tie.Need-clamp-requires
 clamp-requires c κs = search needs
@@ -24,9 +27,17 @@ new-requires : tie.Need-new-requires
 new-requires c κs = search needs
 
 returns : tie.Need-returns
-returns c = c .new .ensures ∙ entry-is _ _ (c .before .before .clamp .ensures .0)
+returns c = c .new .ensures ∙ entry-row-is _ _ (c .before .before .clamp .ensures .0)
 
 pub entry-row-spec : {M : Type 1} → statement M
 entry-row-spec =
     tie.close
-    (tie.spec clamp-requires mul-e element-copy-out-e add-new cast-new new-requires returns)
+    (tie.spec
+    sub-clamp
+    clamp-requires
+    mul-e
+    element-copy-out-e
+    add-new
+    cast-new
+    new-requires
+    returns)

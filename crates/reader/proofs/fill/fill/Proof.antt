@@ -1,5 +1,5 @@
 -- `reader::fill::fill` meets its contract: a walk of its MIR, by hand, with a counted loop. All that it knows of `next_row` is that it meets its contract.
--- The borrow of rows is opened once, before the loop, and closed once, after it; entries is owned between turns, and lent again to `next_row` in each.
+-- The borrow of rows is opened once, before the loop, and closed once, after it; entries is owned between turns, and borrowed again to `next_row` in each.
 -- The invariant, at i, a state f, a table es and rows zs: `rowsLeft` from there is `rowsLeft` from the start (`RowsLeft.antt`'s `left-on` and `left-off` take it a turn on, and to the end). The variant: n - i.
 -- Assumes nothing.
 use mathlib.Core.Path.{_≡_, refl, sym, _∙_, ap, subst}
@@ -180,7 +180,7 @@ module _ {M : Type 1} (𝓤 : URA M) (H : Heap 𝓤) (A : Atoms 𝓤) (W : Given
       nothing ! $ owned ! usize (Is usize) (uint-makes 𝓤 H A W w64) n _ (refl, nn) $ fjoin ! $ move ! (1 ∷ 0 ∷ []) $ fjoin ! $ move ! (2 ∷ 0 ∷ []) $ fjoin ! $ move ! (1 ∷ 0 ∷ []) $ fjoin ! $ frame ! $
       feqI ! (List Val) (vunit ∷ []) (vunit ∷ []) refl $ done !
 
-  -- ---- the call of `next_row`: entries is lent again at the lifetime ν, under the name δ
+  -- ---- the call of `next_row`: entries is borrowed again at the lifetime ν, under the name δ
   module _ (f : Filled) (es : List ℕ) (ν : ℕ) (δ : GName) where
     abbrev to : Next 𝓤 H A mem run .Ghost
     to = (((κ, (ν ∷ [], tt)), (q, (fullShare, tt)), tt, (bx, (ex δ es, (f, tt))), (bv ∷ [], (ev ∷ [], (sv f ∷ [], tt)))), tt)
@@ -233,12 +233,12 @@ module _ {M : Type 1} (𝓤 : URA M) (H : Heap 𝓤) (A : Atoms 𝓤) (W : Given
     turns t =
         assigns ! (bin ! (load ! (from ! (stop !)) (look ! 18 refl)) (load ! (from ! (stop !)) (look ! 22 refl)) tt) (from ! (stop !)) (init ! 14 refl (tt, tt)) $
         first ! $ branches ! (load ! (from ! (stop !)) (look ! 14 refl))
-        -- the turn goes on: entries is lent again, for a lifetime ν of the call
+        -- the turn goes on: entries is borrowed again, for a lifetime ν of the call
         (λ less. skips ! $ exec ! C Λ En more (anyQ (Turned t)) $
         assigns ! (addr ! (from ! (hop ! (look ! 26 refl) (stop !)))) (from ! (stop !)) (init ! 12 refl (tt, tt)) $
         lft-new ! tt (λ ν. move ! (7 ∷ 8 ∷ []) $
         use2 W (later (some (λ (δ : GName). ‵ (Lends (ν ∷ []) δ es) ⊛ ‵ (LentAgain Tb κe (ν ∷ []) qe ε eb eo δ es)))) (lends-again 𝓤 H A W Tb (named 1) κe (ν ∷ []) qe ε eb eo (named 1) es) $ await ! tt $ pick ! (λ δ. split ! $
-        -- [entries, lent; what is kept of it; ν's token; the elements; the open borrow; obs; auth; what s owns; its token; _11; …]: `next_row` is called, with a copy of s
+        -- [entries, borrowed; what is kept of it; ν's token; the elements; the open borrow; obs; auth; what s owns; its token; _11; …]: `next_row` is called, with a copy of s
         move ! (7 ∷ []) $ use1 W (‵ Bytes ⊛ ‵ Bytes) (shr-slice-copy 𝓤 H A W (named 0) κ u8 .twice bx (bv ∷ [])) $ split ! $
         nothing ! $ move ! (5 ∷ 0 ∷ []) $ join ! $ move ! (9 ∷ 0 ∷ []) $ join ! $ move ! (0 ∷ 1 ∷ 3 ∷ []) $ use3 W (raw (Next 𝓤 H A mem run .pre (to f es ν δ))) (asked f es ν δ is (short less)) $
         -- [what `next_row` asks; what s owns; what is kept of entries; the elements; the open borrow; obs; auth; _11; …]

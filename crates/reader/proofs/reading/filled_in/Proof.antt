@@ -1,5 +1,5 @@
 -- `reader::reading::filled_in` meets its contract: a walk of its MIR, by hand, with no branch and no loop. All that it knows of `fill` is that it meets its contract.
--- The table is a local array, lent for the call; rows is passed on at its own lifetime, share and ghost name, and not used again (`gave-slice`).
+-- The table is a local array, borrowed for the call; rows is passed on at its own lifetime, share and ghost name, and not used again (`gave-slice`).
 -- Assumes nothing.
 use mathlib.Core.Path.{_≡_, refl}
 use Prim.Native.Nat.{ℕ, _<_, _≤_, _^_}
@@ -121,7 +121,7 @@ module _ {M : Type 1} (𝓤 : URA M) (H : Heap 𝓤) (A : Atoms 𝓤) (W : Given
       nothing ! $ owned ! usize (Is usize) (uint-makes 𝓤 H A W w64) n _ (refl, nn) $ fjoin ! $ move ! (1 ∷ 0 ∷ []) $ fjoin ! $ move ! (1 ∷ 0 ∷ []) $ fjoin ! $ frame ! $
       feqI ! (List Val) (vunit ∷ []) (vunit ∷ []) refl $ done !
 
-  -- ---- the call of `fill`: the table, which is at l, is lent at the lifetime ν, under the name δ
+  -- ---- the call of `fill`: the table, which is at l, is borrowed at the lifetime ν, under the name δ
   module _ (l : ℕ) (ν : ℕ) (δ : GName) where
     abbrev ex : RefT (List ℕ)
     ex = record { ptr = (l, 0); name = δ; now = zeros }
@@ -155,21 +155,21 @@ module _ {M : Type 1} (𝓤 : URA M) (H : Heap 𝓤) (A : Atoms 𝓤) (W : Given
         assigns ! (addr ! (from ! (stop !))) (from ! (stop !)) (init ! 4 refl (tt, tt)) $
         assigns ! (addr ! (from ! (fld ! refl (hop ! (look-in ! 12 (sub ! 0 refl (whole !))) (stop !))))) (from ! (stop !)) (init ! 2 refl (tt, tt)) $
         assigns ! (agg ! (and-then ! (load ! (from ! (stop !)) (look ! 2 refl)) (and-then ! (load ! (from ! (fld ! refl (stop !))) (look-in ! 12 (sub ! 1 refl (whole !)))) (no-more !)))) (from ! (stop !)) (init ! 0 refl (tt, (tt, (record { fits = gr .0 }, tt)))) $
-        -- it is lent, for a lifetime ν of the call
+        -- it is borrowed, for a lifetime ν of the call
         move ! (8 ∷ []) $ owned ! Tb (Is Tb) (array-makes 𝓤 H A W u64 (uint-makes 𝓤 H A W w64) 256) zeros _ zeros-are $ move ! (1 ∷ 0 ∷ []) $
         use2 W (‵ (in-memory Tb .lies zeros l₄ 0)) (array-in 𝓤 H A W u64 256 zeros zv l₄ 0) $
         lft-new ! tt (λ ν. move ! (1 ∷ []) $
         use1 W (later (some (λ (δ : GName). ‵ (Table l₄ ν δ) ⊛ ‵ (flent (ν ∷ []) (Body (in-memory Tb) l₄ 0 δ))))) (lends-ref 𝓤 H A W Tb (named 1) (ν ∷ []) zeros l₄ 0) $ await ! tt $ pick ! (λ δ. split ! $
-        -- [the table, lent; the lender's part; ν's token; _8; …; _7; …; _6; …; _5; …; that _4 dies; _3; …; _2; …; _1; …; _0; …; the tokens; what the parameters own]
+        -- [the table, borrowed; the owner's part; ν's token; _8; …; _7; …; _6; …; _5; …; that _4 dies; _3; …; _2; …; _1; …; _0; …; the tokens; what the parameters own]
         move ! (21 ∷ 20 ∷ []) $ fsplit ! $ move ! (1 ∷ []) $ fsplit ! $ move ! (2 ∷ []) $ use1 W (‵ Bytes ⊛ ‵ Bytes) (shr-slice-copy 𝓤 H A W (named 0) κ u8 .twice bx (bv ∷ [])) $ split ! $
-        -- [what bytes owns; the same; what rows owns; what n owns; the tokens; the table, lent; the lender's part; ν's token; _8; …]
+        -- [what bytes owns; the same; what rows owns; what n owns; the tokens; the table, borrowed; the owner's part; ν's token; _8; …]
         move ! (4 ∷ []) $ split ! $ move ! (8 ∷ 1 ∷ []) $ join ! $ move ! (1 ∷ 0 ∷ []) $ join ! $ move ! (5 ∷ 3 ∷ []) $ join ! $ move ! (1 ∷ 2 ∷ 0 ∷ []) $ use3 W (raw (Fill 𝓤 H A mem run .pre (to l₄ ν δ))) (asked l₄ ν δ) $
-        -- [what `fill` asks; what bytes owns; what n owns; the lender's part; _8; …; _7; …; _6; …; _5; …; that _4 dies; _3; …; _2; …; _1; …; _0; …]
+        -- [what `fill` asks; what bytes owns; what n owns; the owner's part; _8; …; _7; …; _6; …; _5; …; that _4 dies; _3; …; _2; …; _1; …; _0; …]
         calls-at ! fm (Fill 𝓤 H A mem run) known (to l₄ ν δ) (and-then ! (load ! (from ! (stop !)) (look ! 17 refl)) (and-then ! (load ! (from ! (stop !)) (look ! 8 refl)) (and-then ! (load ! (from ! (stop !)) (look ! 4 refl)) (and-then ! (load ! (from ! (stop !)) (look ! 13 refl)) (no-more !))))) (λ w.
         use1 W (later (some (λ (r : Unit {0}). (Tokens l₄ ν δ ⊛ ‵ (Nothing .own r (w ∷ []))) ⊛ raw (ensured 𝓤 H A fill.ended (fill.clauses 𝓤 H A mem run) (κ, (ν ∷ [], (κ′, tt))) (bx, (ex l₄ ν δ, (rx, (n, tt)))) tt r)))) (id⊢ 𝓤 _) $ await ! tt $ pick ! (λ r.
         split ! $ move ! (1 ∷ []) $ use1 W (some (λ (ws : Unit {0} × (List ℕ × (List Row × (Unit {0} × Unit {0})))). ‵ (lasts fill.ended (κ, (ν ∷ [], (κ′, tt))) (bx, (ex l₄ ν δ, (rx, (n, tt)))) ws) ⊛ raw (fact 𝓤 (ws .1 .1 .0 ≡ rowsFrom n bs zeros begin ++ without n ys)))) (id⊢ 𝓤 _) $ pick ! (λ ws.
         split ! $ move ! (1 ∷ []) $ heard ! (ws .1 .1 .0 ≡ rowsFrom n bs zeros begin ++ without n ys) (λ e. fsplit ! $ drop ! $ fsplit ! $ move ! (1 ∷ []) $ fsplit ! $ fsplit ! $ move ! (1 ∷ []) $ feqL ! (λ len.
-        -- [the last rows; true; the last table; the tokens and the result; what bytes owns; what n owns; the lender's part; _8; …]
+        -- [the last rows; true; the last table; the tokens and the result; what bytes owns; what n owns; the owner's part; _8; …]
         move ! (3 ∷ []) $ split ! $ move ! (1 ∷ []) $ facts ! Nothing (Is Nothing) (shows 𝓤 H A Nothing) r (w ∷ []) (λ is.
         land ! (from ! (stop !)) (init ! 13 refl (nothing-lawful 𝓤 H A W .typed r _ is .0)) $
         -- the lifetime is ended, and the table comes back
