@@ -1,10 +1,10 @@
--- The second pass, by the cases that the code goes through: clamped numbers, and the row and the table of each form of header. Assumes nothing.
+-- The second pass, by the cases that the code goes through: the row and the table of each form of header. Assumes nothing.
 use mathlib.Core.Path.{_≡_, refl, sym}
 use mathlib.Core.Logic.{_≢_}
 use mathlib.Core.Bool.{false}
 use mathlib.Core.List.{List}
 use mathlib.Core.Option.{none, some}
-use Prim.Native.Nat.{ℕ, _+_, _-_, _*_, _^_, _≤_, _<_, min}
+use Prim.Native.Nat.{ℕ, _+_, _-_, _*_, _%_, _^_, _≤_, _<_, min}
 use native.Mathlib.Omega.{arith}
 use lib.Dec.{leb, ltb}
 use lib.ListN.{length, drop, set, getD, length-drop}
@@ -17,20 +17,9 @@ use Rattle.format.proofs.Tests.{order, equal, eqb-yes, eqb-no, leb-yes, leb-no,
 use Rattle.format.proofs.Headers.{size-within}
 use Rattle.symbols.specs.Entry.{kindIn, lengthIn, startIn}
 use Rattle.reader.specs.declared.fill.Filled.{Filled}
-use Rattle.reader.specs.Filling.{clamped, rowOf, fixedRow, entryRow, packed, filledForm, tableForm, filledAt, tableAt, filledNext, tableNext, blank}
+use Rattle.reader.specs.Filling.{rowOf, fixedRow, entryRow, packed, filledForm, tableForm, filledAt, tableAt, filledNext, tableNext, blank}
 use Rattle.reader.proofs.Flat.{form-reference}
 use Rattle.reader.proofs.Heads.{standing}
-
--- ---- clamped numbers
-
-module _ {most n : ℕ} where
-  pub clamped-within : n ≤ most → n ≡ clamped most n
-  unfolding clamped
-  clamped-within h = sym (pick-yes n 0 (leb-yes h))
-
-  pub clamped-beyond : most < n → 0 ≡ clamped most n
-  unfolding clamped
-  clamped-beyond h = sym (pick-no n 0 (leb-no h))
 
 -- ---- rows with a kind and a number
 
@@ -68,16 +57,12 @@ form-fixed h l u =
     (λ e. (7, min (h .payload) (2 ^ 64 - 2), rw e, rw e))
     (λ b. let e : h .code ≡ 3 = omega arith in (8, h .payload, rw e, rw e))))
 
-pub entry-row-is : (es : List ℕ) (p : ℕ) {i : ℕ} → i ≡ clamped 255 p → let e = getD es i 0 in rowOf (kindIn e) (lengthIn e) (startIn e) ≡ entryRow es p
-unfolding entryRow
-entry-row-is es p e = rw e
-
 -- ---- the row and the table of a form
 
 abbrev Fills : List ℕ → ℕ → ℕ → ℕ → Form → Filled → List ℕ → Type 0
 Fills es next names p f r l = (r ≡ filledForm es next names p f) × (l ≡ tableForm es next names p f)
 
-module _ (es : List ℕ) (next names p k : ℕ) {n : ℕ} {r : Row} (size : n ≡ clamped 16384 p) (row : r ≡ rowOf k p next) where
+module _ (es : List ℕ) (next names p k : ℕ) {n : ℕ} {r : Row} (size : n ≡ p % 32768) (row : r ≡ rowOf k p next) where
   abbrev with-names : ℕ → Filled
   with-names m = record { at = next + n; names = m; row = r }
 

@@ -114,11 +114,12 @@ plain-two : (h : Header) → h .code ≡ 2 → Plain h
 unfolding formOf pick
 plain-two h e = record { kind = 7; number = min (h .payload) (2 ^ 64 - 2); form = rw e; small = omega arith }
 
+pub integer-code : (h : Header) → leb 1 (h .code) && leb (h .code) 2 ≡ true → (1 ≤ h .code) × (h .code ≤ 2)
+integer-code h e = let w = and-true (leb 1 (h .code)) (leb (h .code) 2) e in (leb-true 1 (h .code) (w .0), leb-true (h .code) 2 (w .1))
+
 pub plain-integer : (h : Header) → leb 1 (h .code) && leb (h .code) 2 ≡ true → Plain h
 plain-integer h e =
-    let w = and-true (leb 1 (h .code)) (leb (h .code) 2) e in
-    let l = leb-true 1 (h .code) (w .0) in
-    let u = leb-true (h .code) 2 (w .1) in
+    let w = integer-code h e in
     equal (h .code) 1 (plain-one h) (λ n. plain-two h (omega (arith, n)))
 
 -- ---- containers

@@ -1,9 +1,9 @@
--- The second pass fills in the rows that reading gives: in a bundle that reads the clamps change nothing. Assumes nothing.
+-- The second pass fills in the rows that reading gives: in a bundle that reads nothing is cut down. Assumes nothing.
 use mathlib.Core.Path.{_≡_, refl, ap, ap₂, sym, subst, _∙_}
 use mathlib.Core.Bool.{true, false}
 use mathlib.Core.List.{List, [], _∷_, _++_, map, append-assoc, append-nil}
 use mathlib.Core.Option.{some}
-use Prim.Native.Nat.{ℕ, _+_, _≤_, _<_}
+use Prim.Native.Nat.{ℕ, _+_, _%_, _≤_, _<_}
 use native.Mathlib.Omega.{arith}
 use lib.Dec.{leb, ltb}
 use lib.ListN.{length, drop, set, getElem?, replicate, length-drop, length-set, length-map, length-replicate}
@@ -27,10 +27,9 @@ use Rattle.symbols.proofs.EntryLaws.{Packed, packed-plain}
 use Rattle.reader.specs.declared.fill.Filled.{Filled}
 use Rattle.reader.specs.Judging.{foundIn, entriesOf, partOf}
 use Rattle.reader.specs.Answers.{rowsIn}
-use Rattle.reader.specs.Filling.{clamped, packed, entryRow, filledForm, tableForm, filledAt, tableAt, filledNext, tableNext, rowsFrom, begin}
+use Rattle.reader.specs.Filling.{packed, entryRow, filledForm, tableForm, filledAt, tableAt, filledNext, tableNext, rowsFrom, begin}
 use Rattle.reader.proofs.Entries.{length-entries, entry-none, entry-is, entries-more}
 use Rattle.reader.proofs.NameEntry.{found-packed}
-use Rattle.reader.proofs.FillLaws.{clamped-within}
 
 module _ (bytes : List ℕ) (short : length bytes ≤ max-bytes) where
   -- A packed table stands for the entries.
@@ -56,12 +55,13 @@ module _ (bytes : List ℕ) (short : length bytes ≤ max-bytes) where
         order names (h .payload)
         (λ l. none-some (sym (entry-none bytes es names (t .size) (t .few) (h .payload) l) ∙ g))
         (λ l.
+        let i : h .payload % 256 ≡ h .payload = omega (arith, t .few) in
         let q = some-inj (sym (entry-is bytes es names (t .size) (t .few) (h .payload) l) ∙ g) in
-        (rw (← clamped-within {most = 255} {n = h .payload} (omega (arith, t .few))) (ap rowOf q), omega arith, t))
+        (rw i (ap rowOf q), omega arith, t))
 
     module _ (k : ℕ) (hi : k ≤ 11) (within : h .payload ≤ max-bytes) (e : partOf bytes k next (h .payload) ≡ x) where
-      exact : clamped 16384 (h .payload) ≡ h .payload
-      exact = sym (clamped-within within)
+      exact : h .payload % 32768 ≡ h .payload
+      exact = omega (arith, within)
 
       row : filledForm es next names (h .payload) (content k) .row ≡ rowOf x
       unfolding filledForm rowOf

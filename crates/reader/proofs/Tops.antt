@@ -24,7 +24,7 @@ use Rattle.reader.specs.Lanes.{Lane, Leads}
 use Rattle.reader.specs.Answers.{answerOf}
 use Rattle.reader.proofs.Entries.{length-entries}
 
-pub fair-start : (strict : Bool) (s : List ℕ) → Fair strict s (replicate {A = ℕ} 256 0) (replicate {A = ℕ} 512 0) 0
+pub fair-start : (strict : Bool) (s : List ℕ) → Fair strict s (replicate {A = ℕ} 256 0) (replicate {A = ℕ} 768 0) 0
 fair-start strict s = record { few = omega arith; size = refl; chained = λ _. chain-start s s _ _ refl refl }
 
 pub stands-start : (s es : List ℕ) → Stands s es 0 0 0 start

@@ -1,6 +1,6 @@
--- The second pass of reading: the row of the next item, and the table after it. Lengths and counts are clamped where the code has to be safe
--- without knowing that the bundle reads; in one that does the clamps change nothing.
-use Prim.Native.Nat.{ℕ, zero, suc, _+_, _-_, _*_, _^_, min}
+-- The second pass of reading: the row of the next item, and the table after it. Lengths and indices are cut down where the code has to be safe
+-- without knowing that the bundle reads; in one that does this changes nothing.
+use Prim.Native.Nat.{ℕ, zero, suc, _+_, _-_, _*_, _%_, _^_, min}
 use mathlib.Core.List.{List, [], _∷_}
 use mathlib.Core.Option.{Option, none, some}
 use lib.Dec.{leb, ltb, eqb}
@@ -13,9 +13,6 @@ use Rattle.format.specs.Reading.{Form, fixed, content, reference, formOf}
 use Rattle.symbols.specs.Entry.{kindIn, lengthIn, startIn}
 use Rattle.reader.specs.declared.fill.Filled.{Filled}
 
-unfoldable pub clamped : ℕ → ℕ → ℕ
-clamped most n = pick (leb n most) n 0
-
 abbrev pub rowOf : ℕ → ℕ → ℕ → Row
 rowOf kind number start = record { kind = kind; number = number; start = start }
 
@@ -26,7 +23,7 @@ fixedRow h =
 
 -- The row of the entry of an index.
 unfoldable pub entryRow : List ℕ → ℕ → Row
-entryRow es p = let e = getD es (clamped 255 p) 0 in rowOf (kindIn e) (lengthIn e) (startIn e)
+entryRow es p = let e = getD es (p % 256) 0 in rowOf (kindIn e) (lengthIn e) (startIn e)
 
 -- The entry of a name, with no mark.
 unfoldable pub packed : ℕ → ℕ → ℕ → ℕ
@@ -36,12 +33,12 @@ packed kind next len = next * 562949953421312 + (len * 2 + (kind - 10))
 unfoldable pub filledForm : List ℕ → ℕ → ℕ → ℕ → Form → Filled
 filledForm es next names p (fixed k n) = record { at = next; names = names; row = rowOf k n 0 }
 filledForm es next names p (content k) =
-    record { at = next + clamped 16384 p; names = pick (leb 10 k && ltb names 256) (names + 1) names; row = rowOf k p next }
+    record { at = next + p % 32768; names = pick (leb 10 k && ltb names 256) (names + 1) names; row = rowOf k p next }
 filledForm es next names p reference = record { at = next; names = names; row = entryRow es p }
 
 unfoldable pub tableForm : List ℕ → ℕ → ℕ → ℕ → Form → List ℕ
 tableForm es next names p (fixed k n) = es
-tableForm es next names p (content k) = pick (leb 10 k && ltb names 256) (set es names (packed k next (clamped 16384 p))) es
+tableForm es next names p (content k) = pick (leb 10 k && ltb names 256) (set es names (packed k next (p % 32768))) es
 tableForm es next names p reference = es
 
 abbrev pub blank : Row

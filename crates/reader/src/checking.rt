@@ -12,6 +12,7 @@ use format::FieldCount;
 use format::Mode;
 use format::Row;
 use format::SymbolTable;
+use symbols::lookup::Links;
 
 // The counts of a bundle that reads, or the error and its offset.
 pub enum Checked {
@@ -28,7 +29,7 @@ pub fn walk(bytes: &[u8], mode: Mode, most: usize) -> Checked
         return Checked::Failed(Error::TooLong, 0);
     }
     let mut entries = [0u64; SymbolTable::MAX_ENTRIES];
-    let mut links = [0u16; 512];
+    let mut links = [0u16; Links::SIZE];
     let strict = mode.is_strict();
     // more fields than there are bytes, so that the bytes end first
     match crate::fields::fields(

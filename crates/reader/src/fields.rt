@@ -13,6 +13,7 @@ use crate::item::Out;
 use format::Error;
 use format::FieldCount;
 use format::SymbolTable;
+use symbols::lookup::Links;
 
 // How far reading has come: the offset, the entries, the rows that are left, and 1 where a key was read and its value is due.
 pub struct Cursor {
@@ -38,7 +39,7 @@ pub fn fields(
     known: usize,
     free: usize,
     entries: &mut [u64; SymbolTable::MAX_ENTRIES],
-    links: &mut [u16; 512],
+    links: &mut [u16; Links::SIZE],
 ) -> Step
     requires { ⌜ (from ≤ length (now s)) × (length (now s) ≤ 16384) × Fair strict (now s) (now entries) (now links) known ⌝ }
     ensures went { λ r. ⌜ Went strict (now (s .entry)) (now (entries .exit)) (now (links .exit)) from (count .0) r ⌝ }

@@ -4,7 +4,8 @@ ghost use Prim.Native.Nat.{_+_, _≤_, _<_};
 ghost use mathlib.Core.List.{_++_};
 ghost use lib.ListN.{length, drop};
 ghost use Rattle.format.specs.Reading.{content, formOf};
-ghost use Rattle.reader.specs.Filling.{clamped, fixedRow, entryRow, filledForm, tableForm, filledNext, tableNext, rowsFrom, begin};
+ghost use Rattle.reader.specs.Filling.{fixedRow, entryRow, filledForm, tableForm, filledNext, tableNext, rowsFrom, begin};
+use crate::item::is_integer;
 use format::Bundle;
 use format::Header;
 use format::Row;
@@ -16,16 +17,6 @@ pub struct Filled {
     pub at: usize,
     pub names: usize,
     pub row: Row,
-}
-
-// A length or an index, which in a bundle that reads is at most `most`; else 0.
-fn clamp(most: u64, p: u64) -> usize
-    ensures { λ r. ⌜ (r ≡ clamped most p) × (r ≤ most) ⌝ }
-{
-    if p <= most {
-        return p as usize;
-    }
-    0
 }
 
 // The row of a header with a kind and a number.
@@ -54,7 +45,7 @@ fn fixed_row(h: Header) -> Row
 fn entry_row(p: u64, entries: &[u64; SymbolTable::MAX_ENTRIES]) -> Row
     ensures { λ r. ⌜ r ≡ entryRow (now (entries .entry)) p ⌝ }
 {
-    let i = clamp(SymbolTable::MAX_ENTRIES as u64 - 1, p);
+    let i = (p % SymbolTable::MAX_ENTRIES as u64) as usize;
     let e = entries[i];
     Row::new(
         (10 + e % 2) as u8,
@@ -75,7 +66,7 @@ fn content_row(
     ensures row { λ r. ⌜ r ≡ filledForm (now (entries .entry)) next names p (content kind) ⌝ }
     ensures table { λ r. ⌜ now (entries .exit) ≡ tableForm (now (entries .entry)) next names p (content kind) ⌝ }
 {
-    let len = clamp(Bundle::MAX_BYTES as u64, p);
+    let len = (p % (2 * Bundle::MAX_BYTES as u64)) as usize;
     if kind < 10 {
         return Filled {
             at: next + len,
@@ -113,6 +104,14 @@ fn headed_row(
     let code = h.code;
     let sz = h.sz;
     let p = h.payload;
+    // most items first
+    if is_integer(code) {
+        return Filled {
+            at: next,
+            names,
+            row: fixed_row(h),
+        };
+    }
     if code == 7 {
         return Filled {
             at: next,

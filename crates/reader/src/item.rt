@@ -17,6 +17,7 @@ use format::Error;
 use format::FieldCount;
 use format::Header;
 use format::SymbolTable;
+use symbols::lookup::Links;
 use symbols::lookup::Lookup;
 use wire::header::Head;
 
@@ -161,7 +162,7 @@ fn new_name(
     e: usize,
     names: usize,
     entries: &mut [u64; SymbolTable::MAX_ENTRIES],
-    links: &mut [u16; 512],
+    links: &mut [u16; Links::SIZE],
 ) -> Out
     requires { ⌜ (10 ≤ kind) × (kind ≤ 11) × (next ≤ e) × (e ≤ length (now s)) × (length (now s) ≤ 16384) × Chained (now s) (now s) (now entries) (now links) names ⌝ }
     ensures { λ r. ⌜ Entered true (now (s .entry)) (now (entries .entry)) (now (entries .exit)) (now (links .exit)) names kind next e r ⌝ }
@@ -215,7 +216,7 @@ fn name(
     names: usize,
     keyed: usize,
     entries: &mut [u64; SymbolTable::MAX_ENTRIES],
-    links: &mut [u16; 512],
+    links: &mut [u16; Links::SIZE],
 ) -> Out
     requires { ⌜ Name h × (next ≤ length (now s)) × (length (now s) ≤ 16384) × Fair strict (now s) (now entries) (now links) names ⌝ }
     ensures moves { λ r. ⌜ ((at depth : ℕ) → at < next → Moves strict (now (s .entry)) (now (entries .exit)) (now (links .exit)) at names depth r) ⌝ }
@@ -241,7 +242,7 @@ fn name(
     any_name(kind, next, e, names, entries)
 }
 
-fn is_integer(code: u8) -> bool
+pub fn is_integer(code: u8) -> bool
     ensures { λ r. ⌜ r ≡ (leb 1 code && leb code 2) ⌝ }
 {
     if code < 1 {
@@ -260,7 +261,7 @@ fn judge(
     names: usize,
     keyed: usize,
     entries: &mut [u64; SymbolTable::MAX_ENTRIES],
-    links: &mut [u16; 512],
+    links: &mut [u16; Links::SIZE],
 ) -> Out
     requires { ⌜ (some h ≡ headerOf (drop at (now s))) × (at ≤ length (now s)) × (length (now s) ≤ 16384) × Fair strict (now s) (now entries) (now links) names ⌝ }
     ensures moves { λ r. ⌜ Moves strict (now (s .entry)) (now (entries .exit)) (now (links .exit)) at names depth r ⌝ }
@@ -299,7 +300,7 @@ pub fn one(
     names: usize,
     keyed: usize,
     entries: &mut [u64; SymbolTable::MAX_ENTRIES],
-    links: &mut [u16; 512],
+    links: &mut [u16; Links::SIZE],
 ) -> Out
     requires { ⌜ (at ≤ length (now s)) × (length (now s) ≤ 16384) × Fair strict (now s) (now entries) (now links) names ⌝ }
     ensures moves { λ r. ⌜ Moves strict (now (s .entry)) (now (entries .exit)) (now (links .exit)) at names depth r ⌝ }

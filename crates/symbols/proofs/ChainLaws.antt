@@ -128,24 +128,24 @@ module _ {a b es links : List ℕ} {count kind key : ℕ} (content : List ℕ) (
     lt : v - 1 < count
     lt = omega (arith, w .within)
 
-    pub along-next : sameName x (nameIn a b (getD es (v - 1) 0)) ≡ false → Along a b es count kind key content (getD links (256 + (v - 1)) 0)
+    pub along-next : sameName x (nameIn a b (getD es (v - 1) 0)) ≡ false → Along a b es count kind key content (getD links (512 + (v - 1)) 0)
     along-next h =
         record {
           within = omega (arith, c .next-le (v - 1) lt, w .within);
           none-from = λ j l le. equal j (v - 1) (λ (q : j ≡ v - 1). rw q h)
               (λ q. cases (sameName x (nameIn a b (getD es j 0))) (λ t. clash t (past j l le q t)) (λ f. f));
-          here = λ p. c .next-in (v - 1) (getD links (256 + (v - 1)) 0 - 1) lt (omega arith) ∙ w .here pos;
+          here = λ p. c .next-in (v - 1) (getD links (512 + (v - 1)) 0 - 1) lt (omega arith) ∙ w .here pos;
         }
       where
-        past : (j : ℕ) → j < count → getD links (256 + (v - 1)) 0 ≤ j → j ≢ v - 1 → sameName x (nameIn a b (getD es j 0)) ≡ true
+        past : (j : ℕ) → j < count → getD links (512 + (v - 1)) 0 ≤ j → j ≢ v - 1 → sameName x (nameIn a b (getD es j 0)) ≡ true
             → sameName x (nameIn a b (getD es j 0)) ≡ false
         past j l le q t =
             order v j (λ (g : v ≤ j). w .none-from j l g)
             (λ (g : j < v).
-            let p : j < getD links (256 + (v - 1)) 0 = c .next-past (v - 1) j lt (omega arith) (same-bucket j l t ∙ sym (w .here pos)) in
+            let p : j < getD links (512 + (v - 1)) 0 = c .next-past (v - 1) j lt (omega arith) (same-bucket j l t ∙ sym (w .here pos)) in
             absurd (omega arith))
 
-    pub along-less : getD links (256 + (v - 1)) 0 < v
+    pub along-less : getD links (512 + (v - 1)) 0 < v
     along-less = omega (arith, c .next-le (v - 1) lt)
 
     pub along-hit : sameName x (nameIn a b (getD es (v - 1) 0)) ≡ true → index x (namesIn a b (take count es)) ≡ some (v - 1)
@@ -158,11 +158,11 @@ module _ {a b es links : List ℕ} {count kind key : ℕ} (content : List ℕ) (
 
 -- ---- no entry
 
-pub chain-start : (a b es links : List ℕ) → length es ≡ 256 → links ≡ replicate 512 0 → Chained a b es links 0
+pub chain-start : (a b es links : List ℕ) → length es ≡ 256 → links ≡ replicate 768 0 → Chained a b es links 0
 chain-start a b es links e z =
     record {
       table = record { size = e; few = omega arith; sound = λ i h. absurd (omega arith) };
-      size = rw z (length-replicate {A = ℕ} 512 0);
+      size = rw z (length-replicate {A = ℕ} 768 0);
       head-le = λ k l. omega (arith, zeros k l);
       head-in = λ k v l h. absurd (omega (arith, zeros k l));
       head-past = λ j h. absurd (omega arith);
@@ -172,8 +172,8 @@ chain-start a b es links e z =
       unlike = λ i j h. absurd (omega arith);
     }
   where
-    zeros : (k : ℕ) → k < 256 → getD links k 0 ≡ 0
-    zeros k l = rw z (getD-replicate 512 k 0 0 (omega arith))
+    zeros : (k : ℕ) → k < 512 → getD links k 0 ≡ 0
+    zeros k l = rw z (getD-replicate 768 k 0 0 (omega arith))
 
 -- ---- one more entry
 
@@ -195,17 +195,17 @@ module _ {a b es links : List ℕ} {count e : ℕ} (c : Chained a b es links cou
       }
 
   abbrev links₁ : List ℕ
-  links₁ = set links (256 + count) (getD links (bucket e) 0)
+  links₁ = set links (512 + count) (getD links (bucket e) 0)
 
   abbrev links₂ : List ℕ
-  links₂ = set (set links (256 + count) (getD links (bucket e) 0)) (bucket e) (count + 1)
+  links₂ = set (set links (512 + count) (getD links (bucket e) 0)) (bucket e) (count + 1)
 
   -- the heads
   head-new : getD links₂ (bucket e) 0 ≡ count + 1
-  head-new = getD-set-same links₁ (bucket e) (count + 1) 0 (omega (arith, c .size, length-set links (256 + count) (getD links (bucket e) 0)))
+  head-new = getD-set-same links₁ (bucket e) (count + 1) 0 (omega (arith, c .size, length-set links (512 + count) (getD links (bucket e) 0)))
 
-  head-old : (k : ℕ) → k < 256 → k ≢ bucket e → getD links₂ k 0 ≡ getD links k 0
-  head-old k l n = getD-set-other links₁ (bucket e) k (count + 1) 0 n ∙ getD-set-other links (256 + count) k (getD links (bucket e) 0) 0 (λ q. omega arith)
+  head-old : (k : ℕ) → k < 512 → k ≢ bucket e → getD links₂ k 0 ≡ getD links k 0
+  head-old k l n = getD-set-other links₁ (bucket e) k (count + 1) 0 n ∙ getD-set-other links (512 + count) k (getD links (bucket e) 0) 0 (λ q. omega arith)
 
   head-past-old : (j : ℕ) → j < count → j < getD links₂ (bucket (getD es j 0)) 0
   head-past-old j m =
@@ -214,22 +214,22 @@ module _ {a b es links : List ℕ} {count e : ℕ} (c : Chained a b es links cou
       (λ n. rw (head-old (bucket (getD es j 0)) (omega arith) n) (c .head-past j m))
 
   -- the nexts
-  next-new : getD links₂ (256 + count) 0 ≡ getD links (bucket e) 0
+  next-new : getD links₂ (512 + count) 0 ≡ getD links (bucket e) 0
   next-new =
-      getD-set-other links₁ (bucket e) (256 + count) (count + 1) 0 (λ q. omega arith)
-      ∙ getD-set-same links (256 + count) (getD links (bucket e) 0) 0 (omega (arith, c .size))
+      getD-set-other links₁ (bucket e) (512 + count) (count + 1) 0 (λ q. omega arith)
+      ∙ getD-set-same links (512 + count) (getD links (bucket e) 0) 0 (omega (arith, c .size))
 
-  next-old : (i : ℕ) → i < count → getD links₂ (256 + i) 0 ≡ getD links (256 + i) 0
+  next-old : (i : ℕ) → i < count → getD links₂ (512 + i) 0 ≡ getD links (512 + i) 0
   next-old i l =
-      getD-set-other links₁ (bucket e) (256 + i) (count + 1) 0 (λ q. omega arith)
-      ∙ getD-set-other links (256 + count) (256 + i) (getD links (bucket e) 0) 0 (λ q. omega arith)
+      getD-set-other links₁ (bucket e) (512 + i) (count + 1) 0 (λ q. omega arith)
+      ∙ getD-set-other links (512 + count) (512 + i) (getD links (bucket e) 0) 0 (λ q. omega arith)
 
   -- what `enter` does
-  pub chain-more : Chained a b (set es count e) (set (set links (256 + count) (getD links (bucket e) 0)) (bucket e) (count + 1)) (count + 1)
+  pub chain-more : Chained a b (set es count e) (set (set links (512 + count) (getD links (bucket e) 0)) (bucket e) (count + 1)) (count + 1)
   chain-more =
       record {
         table = table-more;
-        size = length-set links₁ (bucket e) (count + 1) ∙ length-set links (256 + count) (getD links (bucket e) 0) ∙ c .size;
+        size = length-set links₁ (bucket e) (count + 1) ∙ length-set links (512 + count) (getD links (bucket e) 0) ∙ c .size;
         head-le = λ k l. equal k (bucket e)
             (λ (q : k ≡ bucket e). rw (q, head-new) (omega arith))
             (λ n. omega (arith, head-old k l n, c .head-le k l));
@@ -253,7 +253,7 @@ module _ {a b es links : List ℕ} {count e : ℕ} (c : Chained a b es links cou
             rw (q, last, old w (omega (arith, c .head-le (bucket e) (omega arith)))) (c .head-in (bucket e) w (omega arith) p))
             (λ n.
             let m : i < count = omega arith in
-            let p : getD links (256 + i) 0 ≡ w + 1 = sym (next-old i m) ∙ h in
+            let p : getD links (512 + i) 0 ≡ w + 1 = sym (next-old i m) ∙ h in
             rw (old i m, old w (omega (arith, c .next-le i m))) (c .next-in i w m p));
         next-past = λ i j (l : i < count + 1) g h. equal i count
             (λ (q : i ≡ count).

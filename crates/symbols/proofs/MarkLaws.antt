@@ -1,68 +1,82 @@
--- Marks: a turn of each of the two loops over a name's bytes, and that a mark has 32 bits. Assumes nothing.
-use mathlib.Core.Path.{_≡_, refl}
-use mathlib.Core.List.{List, [], _∷_}
-use Prim.Native.Nat.{ℕ, _+_, _≤_, _<_}
-use native.Mathlib.Numerals.{add-one}
+-- Marks: a turn of the loop over a name's bytes, the bytes after the last turn, and that a mark has 32 bits. Assumes nothing.
+use mathlib.Core.Path.{_≡_, ap, sym, _∙_}
+use mathlib.Core.Bool.{Bool, true, false}
+use mathlib.Core.List.{List}
+use Prim.Native.Nat.{ℕ, zero, suc, _+_, _-_, _/_, _≤_, _<_}
 use native.Mathlib.Omega.{arith}
-use lib.ListN.{length, drop, getD, length-drop, drop-of-length-le}
-use lib.Seq.{drop-cons}
-use Rattle.symbols.specs.Mark.{mixed, wordOf, wordAt, markTail, markFrom, markOf}
+use lib.ListN.{length, take, drop, length-drop}
+use lib.Seq.{take-length, drop-drop}
+use Rattle.format.specs.Choice.{pick}
+use Rattle.format.specs.Header.{bigEndian}
+use Rattle.format.proofs.Tests.{pick-yes, pick-no, leb-yes, leb-no}
+use Rattle.symbols.specs.Mark.{mixed, wordAt, markEnd, markFrom, markOf}
 
--- ---- four bytes at a time
+-- The mark of the bytes from i on, begun with h.
+abbrev pub markAt : List ℕ → ℕ → ℕ → ℕ
+markAt s i h = markFrom ((length s - i - 9) / 8) h (drop i s)
 
-rest-to : (s : List ℕ) (i j : ℕ) → j ≡ i + 1 → i < length s → drop i s ≡ getD s i 0 ∷ drop j s
-rest-to s i j e l = rw (e, add-one) (drop-cons s i 0 l)
+pub mark-start : (s : List ℕ) → markOf s ≡ markAt s 0 0
+unfolding markOf
+mark-start s = ap (λ n. markFrom (n / 8) 0 s) (omega arith)
 
-pub mark-word : (s : List ℕ) (i h : ℕ) → i + 4 ≤ length s → markFrom h (drop i s) ≡ markFrom (mixed h (wordAt s i)) (drop (i + 4) s)
+pub mark-eight : (s : List ℕ) (i h : ℕ) → i + 16 < length s → markAt s i h ≡ markAt s (i + 8) (mixed h (wordAt s i) (wordAt s (i + 4)))
 unfolding markFrom
-mark-word s i h l =
-    rw (
-      rest-to s i (i + 1) refl (omega arith),
-      rest-to s (i + 1) (i + 2) (omega arith) (omega arith),
-      rest-to s (i + 2) (i + 3) (omega arith) (omega arith),
-      rest-to s (i + 3) (i + 4) (omega arith) (omega arith),
-    )
+mark-eight s i h l =
+    ap (λ n. markFrom n h (drop i s)) more
+    ∙ ap (λ r. markFrom rest (mixed h (wordAt s i) (bigEndian 0 (take 4 r))) (drop 8 (drop i s))) (drop-drop 4 i s)
+    ∙ ap (markFrom rest (mixed h (wordAt s i) (wordAt s (i + 4)))) (drop-drop 8 i s)
+  where
+    rest : ℕ
+    rest = (length s - (i + 8) - 9) / 8
 
-few : (h : ℕ) (s : List ℕ) → length s < 4 → markFrom h s ≡ markTail h s
-unfolding markFrom markTail
-few h [] l = refl
-few h (a ∷ []) l = refl
-few h (a ∷ b ∷ []) l = refl
-few h (a ∷ b ∷ c ∷ []) l = refl
-few h (a ∷ b ∷ c ∷ d ∷ s) l = absurd (omega arith)
+    more : (length s - i - 9) / 8 ≡ suc rest
+    more = omega arith
 
-pub mark-rest : (s : List ℕ) (i h : ℕ) → length s < i + 4 → markFrom h (drop i s) ≡ markTail h (drop i s)
-mark-rest s i h l = few h (drop i s) (omega (arith, length-drop i s))
+pub rest-is : (s : List ℕ) (i : ℕ) → take (length s - i) (drop i s) ≡ drop i s
+rest-is s i = ap (λ n. take n (drop i s)) (sym (length-drop i s)) ∙ take-length (drop i s)
 
--- ---- byte by byte
+pub mark-rest : (s : List ℕ) (i h : ℕ) → length s ≤ i + 16 → markAt s i h ≡ markEnd h (take (length s - i) (drop i s))
+unfolding markFrom
+mark-rest s i h l = ap (λ n. markFrom n h (drop i s)) none ∙ ap (markEnd h) (sym (rest-is s i))
+  where
+    none : (length s - i - 9) / 8 ≡ 0
+    none = omega arith
 
-pub tail-step : (s : List ℕ) (i h : ℕ) → i < length s → markTail h (drop i s) ≡ markTail (mixed h (getD s i 0)) (drop (i + 1) s)
-unfolding markTail
-tail-step s i h l = rw (rest-to s i (i + 1) refl l)
+-- ---- the last bytes
 
-pub tail-end : (s : List ℕ) (i h : ℕ) → length s ≤ i → markTail h (drop i s) ≡ h
-unfolding markTail
-tail-end s i h l = rw (drop-of-length-le s l)
+pub end-eight : (h : ℕ) (s : List ℕ) → 8 ≤ length s
+    → markEnd h s ≡ mixed (mixed h (wordAt s 0) (wordAt s 4)) (wordAt s (length s - 8)) (wordAt s (length s - 4))
+unfolding markEnd
+end-eight h s l = pick-yes _ _ (leb-yes l)
+
+pub end-four : (h : ℕ) (s : List ℕ) → length s < 8 → 4 ≤ length s → markEnd h s ≡ mixed h (wordAt s 0) (wordAt s (length s - 4))
+unfolding markEnd
+end-four h s u l = pick-no _ _ (leb-no u) ∙ pick-yes _ _ (leb-yes l)
+
+pub end-few : (h : ℕ) (s : List ℕ) → length s < 4 → markEnd h s ≡ mixed h (bigEndian 0 (take (length s) (drop 0 s))) 0
+unfolding markEnd
+end-few h s l = pick-no _ _ (leb-no {a = 8} {b = length s} (omega arith)) ∙ pick-no _ _ (leb-no l) ∙ ap (λ t. mixed h (bigEndian 0 t) 0) (sym (take-length s))
 
 -- ---- bounds
 
-pub mixed-lt : (h w : ℕ) → mixed h w < 4294967296
+pub mixed-lt : (h v w : ℕ) → mixed h v w < 4294967296
 unfolding mixed
-mixed-lt h w = omega arith
+mixed-lt h v w = omega arith
 
-tail-lt : (h : ℕ) (s : List ℕ) → h < 4294967296 → markTail h s < 4294967296
-unfolding markTail
-tail-lt h [] l = l
-tail-lt h (b ∷ s) l = tail-lt (mixed h b) s (mixed-lt h b)
+picked-lt : (b : Bool) (x y : ℕ) → x < 4294967296 → y < 4294967296 → pick b x y < 4294967296
+unfolding pick
+picked-lt true x y p q = p
+picked-lt false x y p q = q
 
-from-lt : (h : ℕ) (s : List ℕ) → h < 4294967296 → markFrom h s < 4294967296
+end-lt : (h : ℕ) (s : List ℕ) → markEnd h s < 4294967296
+unfolding markEnd
+end-lt h s = picked-lt _ _ _ (mixed-lt _ _ _) (picked-lt _ _ _ (mixed-lt _ _ _) (mixed-lt _ _ _))
+
+from-lt : (n h : ℕ) (s : List ℕ) → markFrom n h s < 4294967296
 unfolding markFrom
-from-lt h [] l = l
-from-lt h (a ∷ []) l = tail-lt h (a ∷ []) l
-from-lt h (a ∷ b ∷ []) l = tail-lt h (a ∷ b ∷ []) l
-from-lt h (a ∷ b ∷ c ∷ []) l = tail-lt h (a ∷ b ∷ c ∷ []) l
-from-lt h (a ∷ b ∷ c ∷ d ∷ s) l = from-lt (mixed h (wordOf a b c d)) s (mixed-lt h (wordOf a b c d))
+from-lt zero h s = end-lt h s
+from-lt (suc n) h s = from-lt n (mixed h (wordAt s 0) (wordAt s 4)) (drop 8 s)
 
 pub mark-lt : (s : List ℕ) → markOf s < 4294967296
 unfolding markOf
-mark-lt s = from-lt 0 s (omega arith)
+mark-lt s = from-lt ((length s - 9) / 8) 0 s

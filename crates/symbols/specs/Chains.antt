@@ -1,4 +1,4 @@
--- Entries with chains: links has 256 heads, one for each bucket, and then the next of each entry; 0 ends a chain, and i + 1 is entry i.
+-- Entries with chains: links has 512 heads, one for each bucket, and then the next of each entry; 0 ends a chain, and i + 1 is entry i.
 -- A chain goes from the last entry of a bucket to the one before it, and so on. The names are all different.
 use Prim.Native.Nat.{ℕ, _+_, _/_, _%_, _≤_, _<_}
 use mathlib.Core.Path.{_≡_}
@@ -22,15 +22,15 @@ pub record Table (a b es : List ℕ) (count : ℕ) : Type 0 where
 
 -- The bucket of an entry or a key: the upper bits of its mark.
 abbrev pub bucket : ℕ → ℕ
-bucket e = e / 1099511627776 % 256
+bucket e = e / 549755813888 % 512
 
 pub record Chained (a b es links : List ℕ) (count : ℕ) : Type 0 where
   pub table : Table a b es count
-  pub size : length links ≡ 512
-  pub head-le : (k : ℕ) → k < 256 → getD links k 0 ≤ count
-  pub head-in : (k v : ℕ) → k < 256 → getD links k 0 ≡ v + 1 → bucket (getD es v 0) ≡ k
+  pub size : length links ≡ 768
+  pub head-le : (k : ℕ) → k < 512 → getD links k 0 ≤ count
+  pub head-in : (k v : ℕ) → k < 512 → getD links k 0 ≡ v + 1 → bucket (getD es v 0) ≡ k
   pub head-past : (j : ℕ) → j < count → j < getD links (bucket (getD es j 0)) 0
-  pub next-le : (i : ℕ) → i < count → getD links (256 + i) 0 ≤ i
-  pub next-in : (i v : ℕ) → i < count → getD links (256 + i) 0 ≡ v + 1 → bucket (getD es v 0) ≡ bucket (getD es i 0)
-  pub next-past : (i j : ℕ) → i < count → j < i → bucket (getD es j 0) ≡ bucket (getD es i 0) → j < getD links (256 + i) 0
+  pub next-le : (i : ℕ) → i < count → getD links (512 + i) 0 ≤ i
+  pub next-in : (i v : ℕ) → i < count → getD links (512 + i) 0 ≡ v + 1 → bucket (getD es v 0) ≡ bucket (getD es i 0)
+  pub next-past : (i j : ℕ) → i < count → j < i → bucket (getD es j 0) ≡ bucket (getD es i 0) → j < getD links (512 + i) 0
   pub unlike : (i j : ℕ) → i < count → j < i → sameName (nameIn a b (getD es i 0)) (nameIn a b (getD es j 0)) ≡ false

@@ -1,29 +1,29 @@
 -- The mark of bytes. Any function of the bytes would do: all that is asked of it is that equal names have equal marks.
-use Prim.Native.Nat.{ℕ, _+_, _*_, _%_}
-use mathlib.Core.List.{List, [], _∷_}
-use lib.ListN.{getD}
+use Prim.Native.Nat.{ℕ, zero, suc, _+_, _-_, _*_, _/_, _%_}
+use mathlib.Core.List.{List}
+use lib.Dec.{leb}
+use lib.ListN.{length, take, drop}
+use Rattle.format.specs.Choice.{pick}
+use Rattle.format.specs.Header.{bigEndian}
 
-unfoldable pub mixed : ℕ → ℕ → ℕ
-mixed h w = (h + w) % 4294967296 * 2654435761 % 4294967296
+-- Two products, so that one need not wait for the other.
+unfoldable pub mixed : ℕ → ℕ → ℕ → ℕ
+mixed h v w = ((h + v % 4294967296) % 4294967296 * 2654435761 + w % 4294967296 * 1540483477) % 4294967296
 
-abbrev pub wordOf : ℕ → ℕ → ℕ → ℕ → ℕ
-wordOf a b c d = ((a * 256 + b) * 256 + c) * 256 + d
-
+-- Four bytes as a number.
 abbrev pub wordAt : List ℕ → ℕ → ℕ
-wordAt s i = wordOf (getD s i 0) (getD s (i + 1) 0) (getD s (i + 2) 0) (getD s (i + 3) 0)
+wordAt s i = bigEndian 0 (take 4 (drop i s))
 
--- Byte by byte.
-unfoldable pub markTail : ℕ → List ℕ → ℕ
-markTail h [] = h
-markTail h (b ∷ bs) = markTail (mixed h b) bs
+-- At most 16 bytes, by words from both ends that meet or overlap.
+unfoldable pub markEnd : ℕ → List ℕ → ℕ
+markEnd h s =
+    pick (leb 8 (length s)) (mixed (mixed h (wordAt s 0) (wordAt s 4)) (wordAt s (length s - 8)) (wordAt s (length s - 4)))
+    (pick (leb 4 (length s)) (mixed h (wordAt s 0) (wordAt s (length s - 4))) (mixed h (bigEndian 0 s) 0))
 
--- Four bytes at a time, and the rest byte by byte.
-unfoldable pub markFrom : ℕ → List ℕ → ℕ
-markFrom h [] = h
-markFrom h (a ∷ []) = markTail h (a ∷ [])
-markFrom h (a ∷ b ∷ []) = markTail h (a ∷ b ∷ [])
-markFrom h (a ∷ b ∷ c ∷ []) = markTail h (a ∷ b ∷ c ∷ [])
-markFrom h (a ∷ b ∷ c ∷ d ∷ rest) = markFrom (mixed h (wordOf a b c d)) rest
+-- n times eight bytes, and then the rest.
+unfoldable pub markFrom : ℕ → ℕ → List ℕ → ℕ
+markFrom zero h s = markEnd h s
+markFrom (suc n) h s = markFrom n (mixed h (wordAt s 0) (wordAt s 4)) (drop 8 s)
 
 unfoldable pub markOf : List ℕ → ℕ
-markOf s = markFrom 0 s
+markOf s = markFrom ((length s - 9) / 8) 0 s

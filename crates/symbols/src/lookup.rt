@@ -8,6 +8,15 @@ ghost use Rattle.symbols.specs.Entry.{keyOf, nameIn, namesIn, name, Soun
 ghost use Rattle.symbols.specs.Chains.{foundOf, Chained};
 use format::SymbolTable;
 
+// The links of the chains: a head for each bucket, then the next of each entry.
+pub struct Links;
+
+impl Links {
+    pub const HEADS: usize = 512;
+
+    pub const SIZE: usize = 768;
+}
+
 pub enum Lookup {
     At(usize),
     Nothing,
@@ -18,7 +27,7 @@ pub fn find<'a>(
     first: &'a [u8],
     second: &'a [u8],
     entries: &[u64; SymbolTable::MAX_ENTRIES],
-    links: &[u16; 512],
+    links: &[u16; Links::SIZE],
     count: usize,
     kind: u8,
     key: u64,
@@ -27,14 +36,14 @@ pub fn find<'a>(
     requires { ⌜ Chained (now first) (now second) (now entries) (now links) count × (key ≡ keyOf kind (now content)) × (10 ≤ kind) × (kind ≤ 11) × (length (now content) ≤ 16384) ⌝ }
     ensures { λ r. ⌜ r ≡ foundOf (index (name kind (now (content .entry))) (namesIn (now (first .entry)) (now (second .entry)) (take count (now (entries .entry))))) ⌝ }
 {
-    let head = (key / 1099511627776 % 256) as usize;
+    let head = (key / 549755813888 % Links::HEADS as u64) as usize;
     let mut v = links[head];
     while 0 < v {
         let i = (v - 1) as usize;
         if crate::entry::is_name(first, second, entries[i], kind, key, content) {
             return Lookup::At(i);
         }
-        v = links[256 + i];
+        v = links[Links::HEADS + i];
     }
     Lookup::Nothing
 }
@@ -44,7 +53,7 @@ pub fn enter<'a>(
     first: &'a [u8],
     second: &'a [u8],
     entries: &mut [u64; SymbolTable::MAX_ENTRIES],
-    links: &mut [u16; 512],
+    links: &mut [u16; Links::SIZE],
     count: usize,
     e: u64,
 )
@@ -53,8 +62,8 @@ pub fn enter<'a>(
     ensures stored { λ _. ⌜ now (entries .exit) ≡ set (now (entries .entry)) count e ⌝ }
     ensures chained { λ _. ⌜ Chained (now (first .entry)) (now (second .entry)) (now (entries .exit)) (now (links .exit)) (count + 1) ⌝ }
 {
-    let head = (e / 1099511627776 % 256) as usize;
+    let head = (e / 549755813888 % Links::HEADS as u64) as usize;
     entries[count] = e;
-    links[256 + count] = links[head];
+    links[Links::HEADS + count] = links[head];
     links[head] = (count + 1) as u16;
 }

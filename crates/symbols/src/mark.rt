@@ -1,22 +1,31 @@
 // The mark of a name's bytes, by which most names that differ are told apart without looking at their bytes.
 ghost use mathlib.Core.Path.{_≡_};
-ghost use Prim.Native.Nat.{_+_, _≤_, _<_};
-ghost use lib.ListN.{length, getD};
-ghost use Rattle.symbols.specs.Mark.{mixed, markOf, wordAt};
+ghost use Prim.Native.Nat.{_<_, _≤_};
+ghost use lib.ListN.{length};
+ghost use Rattle.symbols.specs.Mark.{mixed, markEnd, markOf};
+use wire::header::number;
 
-fn mix(h: u64, w: u64) -> u64
-    requires { ⌜ (h < 4294967296) × (w < 4294967296) ⌝ }
-    ensures { λ r. ⌜ (r ≡ mixed h w) × (r < 4294967296) ⌝ }
+fn mix(h: u64, v: u64, w: u64) -> u64
+    requires { ⌜ h < 4294967296 ⌝ }
+    ensures { λ r. ⌜ (r ≡ mixed h v w) × (r < 4294967296) ⌝ }
 {
-    (h + w) % 4294967296 * 2654435761 % 4294967296
+    ((h + v % 4294967296) % 4294967296 * 2654435761 + w % 4294967296 * 1540483477) % 4294967296
 }
 
-// Four bytes as a number.
-fn word(s: &[u8], i: usize) -> u64
-    requires { ⌜ i + 4 ≤ length (now s) ⌝ }
-    ensures { λ r. ⌜ (r ≡ wordAt (now (s .entry)) i) × (r < 4294967296) ⌝ }
+// The last bytes. Two reads of a fixed width that meet or overlap take less than a loop.
+fn end(h: u64, s: &[u8]) -> u64
+    requires { ⌜ (h < 4294967296) × (length (now s) ≤ 16) ⌝ }
+    ensures { λ r. ⌜ (r ≡ markEnd h (now (s .entry))) × (r < 4294967296) ⌝ }
 {
-    ((s[i] as u64 * 256 + s[i + 1] as u64) * 256 + s[i + 2] as u64) * 256 + s[i + 3] as u64
+    let n = s.len();
+    if 8 <= n {
+        let g = mix(h, number(s, 0, 4), number(s, 4, 4));
+        return mix(g, number(s, n - 8, 4), number(s, n - 4, 4));
+    }
+    if 4 <= n {
+        return mix(h, number(s, 0, 4), number(s, n - 4, 4));
+    }
+    mix(h, number(s, 0, n), 0)
 }
 
 pub fn mark(s: &[u8]) -> u64
@@ -24,13 +33,9 @@ pub fn mark(s: &[u8]) -> u64
 {
     let mut h: u64 = 0;
     let mut i = 0;
-    while 4 <= s.len() - i {
-        h = mix(h, word(s, i));
-        i += 4;
+    while 16 < s.len() - i {
+        h = mix(h, number(s, i, 4), number(s, i + 4, 4));
+        i += 8;
     }
-    while i < s.len() {
-        h = mix(h, s[i] as u64);
-        i += 1;
-    }
-    h
+    end(h, &s[i..])
 }

@@ -1,29 +1,33 @@
 -- `content_row` makes no entry for what is no name or where none is left, and else one. Assumes nothing.
+use mathlib.Core.Path.{refl}
 use Rattle.reader.proofs.FillLaws.{content-plain, content-full, content-entered}
 use borrow.Author.Needs.{needs}
 use Rattle.reader.proofs.fill.content_row.Statement.{statement}
 use Rattle.reader.proofs.fill.content_row.Tie as tie
 
-clamp-requires : tie.Need-clamp-requires
-clamp-requires c κs = search needs
+mul-len : tie.Need-mul-len
+mul-len c = search needs
 
-add-t9 : tie.Need-add-t9
-add-t9 c = search needs
+rem-len : tie.Need-rem-len
+rem-len c = search needs
+
+add-t11 : tie.Need-add-t11
+add-t11 c = search needs
 
 new-requires : tie.Need-new-requires
 new-requires c κs = search needs
 
 returns : tie.Need-returns
-returns c = content-plain _ _ _ _ _ (c .before .before .clamp .ensures .0) (c .new .ensures) (c .before .if1 .taken)
+returns c = content-plain _ _ _ _ _ refl (c .new .ensures) (c .before .if1 .taken)
 
-add-t11 : tie.Need-add-t11
-add-t11 c = search needs
+add-t13 : tie.Need-add-t13
+add-t13 c = search needs
 
 new-requires-2 : tie.Need-new-requires-2
 new-requires-2 c κs = search needs
 
 returns-2 : tie.Need-returns-2
-returns-2 c = content-full _ _ _ _ _ (c .before .before .before .clamp .ensures .0) (c .new2 .ensures) (c .before .if2 .taken)
+returns-2 c = content-full _ _ _ _ _ refl (c .new2 .ensures) (c .before .if2 .taken)
 
 mul-entries : tie.Need-mul-entries
 mul-entries c = search needs
@@ -56,17 +60,18 @@ new-requires-3 : tie.Need-new-requires-3
 new-requires-3 c κs = search needs
 
 returns-3 : tie.Need-returns-3
-returns-3 c = content-entered _ _ _ _ _ (c .before .before .before .clamp .ensures .0) (c .new3 .ensures) (c .before .before .if1 .left) (c .before .if2 .left)
+returns-3 c = content-entered _ _ _ _ _ refl (c .new3 .ensures) (c .before .before .if1 .left) (c .before .if2 .left)
 
 pub content-row-spec : {M : Type 1} → statement M
 content-row-spec =
     tie.close
     (tie.spec
-    clamp-requires
-    add-t9
+    mul-len
+    rem-len
+    add-t11
     new-requires
     returns
-    add-t11
+    add-t13
     new-requires-2
     returns-2
     mul-entries

@@ -1,7 +1,8 @@
 -- `reader::fill::headed_row` meets its contract: `FillLaws.antt` has the row and the table of each form. Assumes nothing.
 use native.Mathlib.Omega.{arith}
-use mathlib.Core.Path.{refl}
+use mathlib.Core.Path.{refl, sym, _∙_}
 use mathlib.Core.Logic.{⊎-elim}
+use Rattle.reader.proofs.Flat.{integer-code}
 use Rattle.reader.proofs.Contents.{form-coded, form-bytes}
 use Rattle.reader.proofs.FillLaws.{by-form, by-reference, by-fixed}
 use borrow.Author.Needs.{needs}
@@ -11,11 +12,22 @@ use Rattle.reader.proofs.fill.headed_row.Tie as tie
 add-next : tie.Need-add-next
 add-next c = search needs
 
+is-integer-requires : tie.Need-is-integer-requires
+is-integer-requires c κs = search needs
+
+fixed-row-requires : tie.Need-fixed-row-requires
+fixed-row-requires c κs = let w = integer-code (c .before .before .before .args .h) (sym (c .before .is-integer .ensures) ∙ c .if1 .taken) in omega (arith, w .1)
+
+returns : tie.Need-returns
+returns c =
+    let w = integer-code (c .before .before .before .before .args .h) (sym (c .before .before .is-integer .ensures) ∙ c .before .if1 .taken) in
+    by-fixed _ _ _ _ (omega (arith, w .1)) (λ e. absurd (omega (arith, w .0))) (c .fixed-row .ensures)
+
 entry-row-requires : tie.Need-entry-row-requires
 entry-row-requires c κs = search needs
 
-returns : tie.Need-returns
-returns c = by-reference _ _ _ _ (c .before .before .if1 .taken) (c .entry-row .ensures)
+returns-2 : tie.Need-returns-2
+returns-2 c = by-reference _ _ _ _ (c .before .before .if2 .taken) (c .entry-row .ensures)
 
 add-content-row : tie.Need-add-content-row
 add-content-row c = search needs
@@ -23,32 +35,35 @@ add-content-row c = search needs
 content-row-requires : tie.Need-content-row-requires
 content-row-requires c κs = search needs
 
-returns-2 : tie.Need-returns-2
-returns-2 c = by-form _ _ _ _ (form-coded _ _ refl (c .before .before .if2 .taken) (omega (arith, c .before .before .before .if1 .left, c .before .before .before .before .before .pre .1))) (c .content-row .ensures)
+returns-3 : tie.Need-returns-3
+returns-3 c = by-form _ _ _ _ (form-coded _ _ refl (c .before .before .if3 .taken) (omega (arith, c .before .before .before .if2 .left, c .before .before .before .before .before .before .before .pre .1))) (c .content-row .ensures)
 
 content-row-requires-2 : tie.Need-content-row-requires-2
 content-row-requires-2 c κs = search needs
 
-returns-3 : tie.Need-returns-3
-returns-3 c = by-form _ _ _ _ (form-bytes _ (c .before .before .before .if3 .taken) (c .before .before .if4 .taken)) (c .content-row2 .ensures)
-
-fixed-row-requires : tie.Need-fixed-row-requires
-fixed-row-requires c κs = search needs
-
 returns-4 : tie.Need-returns-4
-returns-4 c = by-fixed _ _ _ _ (omega (arith, c .before .before .if2 .left)) (λ e. ⊎-elim (λ t. omega arith) (λ t. omega arith) (c .before .if3 .came)) (c .fixed-row .ensures)
+returns-4 c = by-form _ _ _ _ (form-bytes _ (c .before .before .before .if4 .taken) (c .before .before .if5 .taken)) (c .content-row2 .ensures)
+
+fixed-row-requires-2 : tie.Need-fixed-row-requires-2
+fixed-row-requires-2 c κs = search needs
+
+returns-5 : tie.Need-returns-5
+returns-5 c = by-fixed _ _ _ _ (omega (arith, c .before .before .if3 .left)) (λ e. ⊎-elim (λ t. omega arith) (λ t. omega arith) (c .before .if4 .came)) (c .fixed-row2 .ensures)
 
 pub headed-row-spec : {M : Type 1} → statement M
 headed-row-spec =
     tie.close
     (tie.spec
     add-next
-    entry-row-requires
+    is-integer-requires
+    fixed-row-requires
     returns
+    entry-row-requires
+    returns-2
     add-content-row
     content-row-requires
-    returns-2
-    content-row-requires-2
     returns-3
-    fixed-row-requires
-    returns-4)
+    content-row-requires-2
+    returns-4
+    fixed-row-requires-2
+    returns-5)

@@ -5,6 +5,9 @@ use borrow.Author.Needs.{needs}
 use Rattle.symbols.proofs.lookup.enter.Statement.{statement}
 use Rattle.symbols.proofs.lookup.enter.Tie as tie
 
+rem-head : tie.Need-rem-head
+rem-head c = search needs
+
 mul-entries : tie.Need-mul-entries
 mul-entries c = search needs
 
@@ -45,6 +48,7 @@ pub enter-spec : {M : Type 1} → statement M
 enter-spec =
     tie.close
     (tie.spec
+    rem-head
     mul-entries
     element-write-entries
     mul-links

@@ -2,6 +2,7 @@
 use mathlib.Core.Path.{sym, _∙_}
 use Prim.Native.Nat.{_-_}
 use native.Mathlib.Omega.{arith}
+use borrow.Author.Needs.{needs}
 use Rattle.symbols.proofs.ChainLaws.{found-at, found-none, Along, along-start, along-next, along-less, along-hit, along-end}
 use Rattle.symbols.proofs.lookup.find.Statement.{statement}
 use Rattle.symbols.proofs.lookup.find.Tie as tie
@@ -11,6 +12,9 @@ Inv-loop first second entries links count kind key content head v₀ v = Along f
 
 abbrev μ-loop : tie.MeasureT-loop
 μ-loop first second entries links count kind key content head v₀ v = v
+
+rem-head : tie.Need-rem-head Inv-loop μ-loop
+rem-head c = search needs
 
 mul-v : tie.Need-mul-v Inv-loop μ-loop
 mul-v c = omega arith
@@ -73,6 +77,7 @@ find-spec =
     (tie.spec
     Inv-loop
     μ-loop
+    rem-head
     mul-v
     element-copy-out-v
     loop-holds

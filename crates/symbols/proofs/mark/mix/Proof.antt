@@ -1,4 +1,4 @@
--- `symbols::mark::mix` meets its contract: it is the spec's sum, whose product fits 64 bits. Assumes nothing.
+-- `symbols::mark::mix` meets its contract: it is the spec's sum, whose products fit 64 bits together. Assumes nothing.
 use mathlib.Core.Path.{refl}
 use native.Mathlib.Omega.{arith}
 use Rattle.symbols.specs.Mark.{mixed}
@@ -12,9 +12,15 @@ add-result c = search needs
 mul-result : tie.Need-mul-result
 mul-result c = search needs
 
+mul-result-2 : tie.Need-mul-result-2
+mul-result-2 c = search needs
+
+add-result-2 : tie.Need-add-result-2
+add-result-2 c = search needs
+
 returns : tie.Need-returns
 unfolding mixed
 returns c = (refl, omega arith)
 
 pub mix-spec : {M : Type 1} → statement M
-mix-spec = tie.close (tie.spec add-result mul-result returns)
+mix-spec = tie.close (tie.spec add-result mul-result mul-result-2 add-result-2 returns)
