@@ -5,3 +5,5 @@ pub mod LeadBytes
 pub mod LocalRule
 pub mod AsciiRuns
 pub mod Ranges
+pub mod Wrote
+pub mod OutputLaws

@@ -1,0 +1,76 @@
+// Numbers, headers and bytes, written at the start of a buffer; what is answered is how many bytes were written.
+ghost use mathlib.Core.Path.{_≡_};
+ghost use mathlib.Core.List.{_++_};
+ghost use Prim.Native.Nat.{_+_, _*_, _≤_, _<_};
+ghost use lib.Dec.{ltb};
+ghost use lib.ListN.{length, drop};
+ghost use Rattle.format.specs.Limits.{max-inline};
+ghost use Rattle.format.specs.Header.{shift, digits, header};
+use crate::header::width;
+use format::Header;
+
+// n in k bytes, most significant first.
+pub fn put_number(out: &mut [u8], k: usize, n: u64) -> usize
+    requires { ⌜ (k ≤ 8) × (k ≤ length (now out)) ⌝ }
+    ensures { λ r. ⌜ (r ≡ k) × (now (out .exit) ≡ digits k n ++ drop k (now (out .entry))) ⌝ }
+{
+    let mut i = 0;
+    while i < k {
+        out[i] = ((n >> (8 * (k - 1 - i))) % 256) as u8;
+        i += 1;
+    }
+    i
+}
+
+// Does the payload stand in the lead byte?
+fn is_inline(code: u8, p: u64) -> bool
+    ensures { λ r. ⌜ r ≡ ltb (p + shift code) (max-inline + 1) ⌝ }
+{
+    if code == 0 {
+        return p <= Header::MAX_INLINE_BYTES;
+    }
+    p <= Header::MAX_INLINE
+}
+
+// The lead byte that has the payload in it.
+fn inline_lead(code: u8, p: u64) -> u8
+    requires { ⌜ (code < 8) × (p + shift code ≤ max-inline) ⌝ }
+    ensures { λ r. ⌜ r ≡ code * 32 + (p + shift code) ⌝ }
+{
+    if code == 0 {
+        return (p + Header::FIXED) as u8;
+    }
+    code * 32 + p as u8
+}
+
+// The shortest header.
+pub fn put_header(out: &mut [u8], code: u8, p: u64) -> usize
+    requires { ⌜ (code < 8) × (length (header code p) ≤ length (now out)) ⌝ }
+    ensures { λ r. ⌜ (r ≡ length (header code p)) × (now (out .exit) ≡ header code p ++ drop (length (header code p)) (now (out .entry))) ⌝ }
+{
+    if is_inline(code, p) {
+        out[0] = inline_lead(code, p);
+        return 1;
+    }
+    if p < 256 {
+        out[0] = code * 32 + Header::MAX_INLINE as u8 + 1;
+        out[1] = p as u8;
+        return 2;
+    }
+    let k = width(p);
+    out[0] = code * 32 + Header::MAX_INLINE as u8 + k as u8;
+    1 + put_number(&mut out[1..], k, p)
+}
+
+// The bytes of another buffer.
+pub fn copy(out: &mut [u8], from: &[u8]) -> usize
+    requires { ⌜ length (now from) ≤ length (now out) ⌝ }
+    ensures { λ r. ⌜ (r ≡ length (now (from .entry))) × (now (out .exit) ≡ now (from .entry) ++ drop (length (now (from .entry))) (now (out .entry))) ⌝ }
+{
+    let mut n = 0;
+    while n < from.len() {
+        out[n] = from[n];
+        n += 1;
+    }
+    n
+}
