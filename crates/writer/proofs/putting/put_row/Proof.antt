@@ -1,0 +1,94 @@
+-- `writer::putting::put_row` meets its contract, kind by kind. Assumes nothing.
+use mathlib.Core.Path.{sym, _∙_}
+use native.Mathlib.Omega.{arith}
+use Rattle.writer.proofs.OutputLaws.{at-name, at-fixed, at-header, at-plain}
+use borrow.Author.Needs.{needs}
+use Rattle.writer.proofs.putting.put_row.Statement.{statement}
+use Rattle.writer.proofs.putting.put_row.Tie as tie
+
+put-fixed-requires : tie.Need-put-fixed-requires
+put-fixed-requires c κs =
+    let s = c .before .before .before .before in
+    (c .before .if1 .taken, rw (at-fixed (s .args .text .now) (s .args .row) (s .args .plan .now) (s .args .i) (c .before .if1 .taken)) at (s .pre .4))
+
+same-length : tie.Need-same-length
+same-length c = search needs
+
+returns : tie.Need-returns
+returns c =
+    let s = c .before .before .before .before .before .before .before in
+    rw (at-fixed (s .args .text .now) (s .args .row) (s .args .plan .now) (s .args .i) (c .before .before .before .before .if1 .taken)) (c .before .before .put-fixed .ensures)
+
+mul-put-name : tie.Need-mul-put-name
+mul-put-name c = search needs
+
+element-copy-out-put-name : tie.Need-element-copy-out-put-name
+element-copy-out-put-name c = search needs
+
+put-name-requires : tie.Need-put-name-requires
+put-name-requires c κs =
+    let s = c .before .before .before .before .before .before in
+    (c .before .before .if2 .taken, s .pre .2, s .pre .3, rw (at-name (s .args .text .now) (s .args .row) (s .args .plan .now) (s .args .i) (c .before .before .if2 .taken)) at (s .pre .4))
+
+same-length-2 : tie.Need-same-length-2
+same-length-2 c = search needs
+
+returns-2 : tie.Need-returns-2
+returns-2 c =
+    let s = c .before .before .before .before .before .before .before .before .before in
+    rw (at-name (s .args .text .now) (s .args .row) (s .args .plan .now) (s .args .i) (c .before .before .before .before .before .if2 .taken)) (c .before .before .put-name .ensures)
+
+has-content-requires : tie.Need-has-content-requires
+has-content-requires c κs = search needs
+
+content-requires : tie.Need-content-requires
+content-requires c κs =
+    let s = c .before .before .before .before .before .before .before in
+    (s .pre .2, s .pre .3, sym (c .before .before .has-content .ensures) ∙ c .before .if3 .taken)
+
+put-sized-requires : tie.Need-put-sized-requires
+put-sized-requires c κs =
+    let s = c .before .before .before .before .before .before .before .before in
+    (omega arith, rw (c .content .ensures) (rw (at-header (s .args .text .now) (s .args .row) (s .args .plan .now) (s .args .i) (c .before .before .before .before .before .if1 .left) (c .before .before .before .before .if2 .left)) at (s .pre .4)))
+
+same-length-3 : tie.Need-same-length-3
+same-length-3 c = search needs
+
+returns-3 : tie.Need-returns-3
+returns-3 c =
+    let s = c .before .before .before .before .before .before .before .before .before .before .before in
+    rw (at-header (s .args .text .now) (s .args .row) (s .args .plan .now) (s .args .i) (c .before .before .before .before .before .before .before .before .if1 .left) (c .before .before .before .before .before .before .before .if2 .left), ← c .before .before .before .content .ensures) (c .before .before .put-sized .ensures)
+
+put-header-requires : tie.Need-put-header-requires
+put-header-requires c κs =
+    let s = c .before .before .before .before .before .before .before in
+    (omega arith, rw (at-plain (s .args .text .now) (s .args .row) (s .args .plan .now) (s .args .i) (c .before .before .before .before .if1 .left) (c .before .before .before .if2 .left) (sym (c .before .before .has-content .ensures) ∙ c .before .if3 .left)) at (s .pre .4))
+
+same-length-4 : tie.Need-same-length-4
+same-length-4 c = search needs
+
+returns-4 : tie.Need-returns-4
+returns-4 c =
+    let s = c .before .before .before .before .before .before .before .before .before .before in
+    rw (at-plain (s .args .text .now) (s .args .row) (s .args .plan .now) (s .args .i) (c .before .before .before .before .before .before .before .if1 .left) (c .before .before .before .before .before .before .if2 .left) (sym (c .before .before .before .before .before .has-content .ensures) ∙ c .before .before .before .before .if3 .left)) (c .before .before .put-header .ensures)
+
+pub put-row-spec : {M : Type 1} → statement M
+put-row-spec =
+    tie.close
+    (tie.spec
+    put-fixed-requires
+    same-length
+    returns
+    mul-put-name
+    element-copy-out-put-name
+    put-name-requires
+    same-length-2
+    returns-2
+    has-content-requires
+    content-requires
+    put-sized-requires
+    same-length-3
+    returns-3
+    put-header-requires
+    same-length-4
+    returns-4)

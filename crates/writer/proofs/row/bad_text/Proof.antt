@@ -1,0 +1,20 @@
+-- `writer::row::bad_text` meets its contract. Assumes nothing.
+use mathlib.Core.Path.{sym, _∙_}
+use Rattle.format.specs.Choice.{_&&_}
+use Rattle.format.proofs.Tests.{eqb-yes, eqb-no, and-no-left}
+use borrow.Author.Needs.{needs}
+use Rattle.writer.proofs.row.bad_text.Statement.{statement}
+use Rattle.writer.proofs.row.bad_text.Tie as tie
+
+is-utf8-requires : tie.Need-is-utf8-requires
+is-utf8-requires c κs = search needs
+
+returns : tie.Need-returns
+unfolding _&&_
+returns c = rw (eqb-yes (c .before .if1 .taken), c .is-utf8 .ensures)
+
+returns-2 : tie.Need-returns-2
+returns-2 c = sym (and-no-left _ (eqb-no (c .if1 .left)))
+
+pub bad-text-spec : {M : Type 1} → statement M
+bad-text-spec = tie.close (tie.spec is-utf8-requires returns returns-2)

@@ -1,0 +1,57 @@
+-- Items measured one after the other: the table of their names, their canonical length, and for each name how it is written.
+use Prim.Native.Nat.{ℕ, _+_, _≤_, _<_}
+use mathlib.Core.Path.{_≡_}
+use mathlib.Core.Bool.{true, false}
+use mathlib.Core.List.{List, []}
+use mathlib.Core.Option.{Option, none, some}
+use lib.Dec.{ltb}
+use lib.ListN.{length, take, getD, getElem?}
+use Rattle.format.specs.declared.row.Row.{Row}
+use Rattle.format.specs.Choice.{pick}
+use Rattle.format.specs.WellFormed.{All}
+use Rattle.format.specs.Header.{header}
+use Rattle.format.specs.Item.{Item, isName}
+use Rattle.format.specs.Names.{index, namesFrom}
+use Rattle.format.specs.Utf8.{utf8}
+use Rattle.format.specs.Canonical.{canonical, full}
+use Rattle.format.specs.Rows.{itemsAt}
+use Rattle.format.specs.Writing.{isBad}
+use Rattle.symbols.specs.Entry.{namesIn}
+use Rattle.symbols.specs.Chains.{Chained}
+
+-- A reference in the plan: the index, or 256 for a name in full.
+unfoldable pub referTo : Option ℕ → ℕ
+referTo none = 256
+referTo (some i) = i
+
+-- An item by its reference.
+unfoldable pub encodedBy : ℕ → Item → List ℕ
+encodedBy r x = pick (ltb r 256) (header 7 r) (full x)
+
+-- An item at a row, by the plan.
+unfoldable pub encodedAt : List ℕ → ℕ → Item → List ℕ
+encodedAt plan i x = pick (isName x) (encodedBy (getD plan i 0) x) (full x)
+
+-- The plan has the reference of each name.
+pub record Planned (plan : List ℕ) (xs : List Item) : Type 0 where
+  pub long : length xs ≤ 1024
+  pub refers : (j : ℕ) (x : Item) → getElem? xs j ≡ some x → isName x ≡ true → getD plan j 0 ≡ referTo (index x (namesFrom [] (take j xs)))
+
+-- The items xs are measured: their names are the first entries of a table over the slices a and b.
+pub record Measured (a b es links plan : List ℕ) (xs : List Item) (count size : ℕ) : Type 0 where
+  pub table : Chained a b es links count
+  pub names : namesIn a b (take count es) ≡ namesFrom [] xs
+  -- so that a name that stands in the table need not be looked at again
+  pub texts : (i : ℕ) (x : Item) → getElem? (namesFrom [] xs) i ≡ some x → utf8 (x .content) ≡ true
+  pub length-is : size ≡ length (canonical xs)
+  pub plan-size : length plan ≡ 1533
+  pub planned : Planned plan xs
+
+-- Rows over a text that can be written as they were planned.
+pub record Putting (text plan : List ℕ) (rs : List Row) (capacity : ℕ) : Type 0 where
+  pub long : length plan ≡ 1533
+  pub short : 0 < length rs → length text ≤ 16384
+  pub fine : All (λ (r : Row). isBad text r ≡ false) rs
+  pub planned : Planned plan (itemsAt text rs)
+  pub few : length (namesFrom [] (itemsAt text rs)) ≤ 256
+  pub fits : length (canonical (itemsAt text rs)) ≤ capacity

@@ -1,0 +1,44 @@
+// All rows judged: by hand, since it reads a slice of structs.
+ghost use mathlib.Core.Path.{_≡_};
+ghost use Prim.Native.Nat.{_≤_, _<_};
+ghost use lib.ListN.{length, take};
+ghost use Rattle.writer.specs.Judging.{Verdict};
+ghost use Rattle.writer.specs.Steps.{begun};
+use crate::name::Plan;
+use crate::row::step;
+use crate::state::State;
+use format::Bundle;
+use format::Row;
+use format::SymbolTable;
+use symbols::lookup::Links;
+
+// The state before the first of n rows.
+fn begin(n: usize) -> State
+    ensures { λ r. ⌜ r ≡ begun n ⌝ }
+{
+    State {
+        row: 0,
+        end: n,
+        depth: 0,
+        left: State::TOP,
+        keyed: 0,
+        names: 0,
+        size: 0,
+        error: 0,
+    }
+}
+
+// Judges and measures the first n rows, and notes how each name is to be written.
+pub fn judge(rows: &[Row], text: &[u8], plan: &mut [u16; Plan::SIZE], n: usize) -> State
+    requires { ⌜ (n ≤ length (now rows)) × (n ≤ 1024) × (0 < n → length (now text) ≤ 16384) × (length (now plan) ≡ 1533) ⌝ }
+    ensures { λ r. ⌜ Verdict (now (text .entry)) (now (plan .exit)) (take n (now (rows .entry))) r ⌝ }
+{
+    let mut entries = [0u64; SymbolTable::MAX_ENTRIES];
+    let mut links = [0u16; Links::SIZE];
+    let mut stack = [0u64; Bundle::MAX_DEPTH];
+    let mut s = begin(n);
+    while s.row < s.end {
+        s = step(text, &mut entries, &mut links, &mut stack, plan, s, rows[s.row]);
+    }
+    s
+}

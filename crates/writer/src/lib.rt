@@ -1,0 +1,12 @@
+// The writer: rows judged and measured, then written in their canonical encoding.
+mod item;
+mod judging;
+mod name;
+mod place;
+mod putting;
+mod row;
+mod state;
+mod writing;
+
+pub use writing::Written;
+pub use writing::write;

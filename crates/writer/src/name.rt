@@ -1,0 +1,192 @@
+// A row that is a symbol or a key: found in the table of names, or put into it.
+ghost use mathlib.Core.Path.{_≡_};
+ghost use mathlib.Core.Bool.{true, false};
+ghost use mathlib.Core.List.{List};
+ghost use mathlib.Core.Option.{none};
+ghost use Prim.Native.Nat.{ℕ, _+_, _≤_, _<_};
+ghost use lib.Dec.{eqb, ltb};
+ghost use lib.ListN.{length, take, set};
+ghost use Rattle.format.specs.declared.row.Row.{Row};
+ghost use Rattle.format.specs.Choice.{_&&_, _||_};
+ghost use Rattle.format.specs.Header.{header};
+ghost use Rattle.format.specs.Names.{index};
+ghost use Rattle.format.specs.Rows.{contentOf, itemAt};
+ghost use Rattle.format.specs.Utf8.{utf8};
+ghost use Rattle.symbols.specs.Entry.{keyOf, namesIn};
+ghost use Rattle.symbols.specs.Chains.{Chained};
+ghost use Rattle.writer.specs.Judging.{After, Next, Ready};
+ghost use Rattle.writer.specs.Names.{Placed, Naming};
+ghost use Rattle.writer.specs.Steps.{namedBy};
+use crate::item::content;
+use crate::item::outside;
+use crate::place::named;
+use crate::state::State;
+use crate::state::refuse;
+use format::Bundle;
+use format::Error;
+use format::Row;
+use format::SymbolTable;
+use symbols::entry::key_of;
+use symbols::lookup::Links;
+use symbols::lookup::Lookup;
+use symbols::lookup::enter;
+use symbols::lookup::find;
+use wire::header::header_len;
+use wire::utf8::is_utf8_name;
+
+// For each row that is a name its reference, and then guesses: the entry of a name that begins at a place in the text, if it is still there.
+pub struct Plan;
+
+impl Plan {
+    // in place of a reference: a name in full
+    pub const FULL: u16 = 256;
+    pub const GUESSES: usize = 1024;
+    pub const MODULUS: usize = 509;
+    pub const SIZE: usize = 1533;
+}
+
+// Rule 9 for a name.
+fn is_bad(len: usize, row: Row) -> bool
+    requires { ⌜ 10 ≤ row .kind ⌝ }
+    ensures { λ r. ⌜ r ≡ (ltb 11 (row .kind) || ltb len (row .start + row .number)) ⌝ }
+{
+    if Row::MAX_KIND < row.kind {
+        return true;
+    }
+    outside(len, row.start, row.number)
+}
+
+// A key after a key.
+fn again(keyed: usize, kind: u8) -> bool
+    ensures { λ r. ⌜ r ≡ (eqb keyed 1 && eqb kind 11) ⌝ }
+{
+    if keyed != 1 {
+        return false;
+    }
+    kind == Row::MAX_KIND
+}
+
+// Does an entry stand for this part of the text?
+fn is_entry(
+    entries: &[u64; SymbolTable::MAX_ENTRIES],
+    names: usize,
+    guess: u16,
+    kind: u8,
+    start: usize,
+    number: u64,
+) -> bool
+    requires { ⌜ (length (now entries) ≡ 256) × (names ≤ 256) × (10 ≤ kind) × (kind ≤ 11) × (start ≤ 16384) × (number ≤ 16384) ⌝ }
+    ensures { λ r. ⌜ (r ≡ true → Placed (now (entries .entry)) names guess kind start number) ⌝ }
+{
+    let i = guess as usize;
+    if names <= i {
+        return false;
+    }
+    let e = entries[i];
+    if e / 281474976710656 != start as u64 * 2 {
+        return false;
+    }
+    e % 65536 == number * 2 + (kind as u64 - 10)
+}
+
+// A name that has an entry.
+fn known(
+    stack: &[u64; Bundle::MAX_DEPTH],
+    plan: &mut [u16; Plan::SIZE],
+    s: State,
+    kind: u8,
+    i: u16,
+) -> State
+    requires { ⌜ ((text : List ℕ) × Ready text (now stack) s) × (length (now plan) ≡ 1533) ⌝ }
+    ensures state { λ r. ⌜ r ≡ namedBy (now (stack .entry)) s kind (s .names) (length (header 7 i)) ⌝ }
+    ensures planned { λ _. ⌜ now (plan .exit) ≡ set (now (plan .entry)) (s .row) i ⌝ }
+{
+    let row = s.row;
+    plan[row] = i;
+    named(stack, s, kind, s.names, header_len(7, i as u64))
+}
+
+// A name that has none yet.
+fn fresh(
+    text: &[u8],
+    entries: &mut [u64; SymbolTable::MAX_ENTRIES],
+    links: &mut [u16; Links::SIZE],
+    stack: &[u64; Bundle::MAX_DEPTH],
+    plan: &mut [u16; Plan::SIZE],
+    s: State,
+    row: Row,
+    key: u64,
+) -> State
+    requires { ⌜ Ready (now text) (now stack) s × Naming (now text) s row × Chained (now text) (now text) (now entries) (now links) (s .names) × (length (now plan) ≡ 1533)
+        × (key ≡ keyOf (row .kind) (contentOf (now text) row)) × (index (itemAt (now text) row) (namesIn (now text) (now text) (take (s .names) (now entries))) ≡ none) ⌝ }
+    ensures { λ r. ⌜ ((xs : List Row) → After (now (text .entry)) (now (entries .entry)) (now (links .entry)) (now (stack .entry)) (now (plan .entry)) xs s → utf8 (contentOf (now (text .entry)) row) ≡ true
+        → Next (now (text .entry)) (now (entries .exit)) (now (links .exit)) (now (stack .entry)) (now (plan .exit)) xs row s r) ⌝ }
+{
+    let names = s.names;
+    if SymbolTable::MAX_ENTRIES <= names {
+        return refuse(s, Error::TooManyEntries);
+    }
+    let at = s.row;
+    let start = row.start;
+    let number = row.number;
+    enter(text, text, entries, links, names, start as u64 * 562949953421312 + key);
+    plan[Plan::GUESSES + start % Plan::MODULUS] = names as u16;
+    plan[at] = Plan::FULL;
+    let n = header_len(row.kind - 5, number) + number as usize;
+    named(stack, s, row.kind, names + 1, n)
+}
+
+// A name that no guess finds.
+fn looked_up(
+    text: &[u8],
+    entries: &mut [u64; SymbolTable::MAX_ENTRIES],
+    links: &mut [u16; Links::SIZE],
+    stack: &[u64; Bundle::MAX_DEPTH],
+    plan: &mut [u16; Plan::SIZE],
+    s: State,
+    row: Row,
+) -> State
+    requires { ⌜ Ready (now text) (now stack) s × Naming (now text) s row × Chained (now text) (now text) (now entries) (now links) (s .names) × (length (now plan) ≡ 1533) ⌝ }
+    ensures { λ r. ⌜ ((xs : List Row) → After (now (text .entry)) (now (entries .entry)) (now (links .entry)) (now (stack .entry)) (now (plan .entry)) xs s
+        → Next (now (text .entry)) (now (entries .exit)) (now (links .exit)) (now (stack .entry)) (now (plan .exit)) xs row s r) ⌝ }
+{
+    let part = content(text, row);
+    if !is_utf8_name(part) {
+        return refuse(s, Error::InvalidUtf8);
+    }
+    let kind = row.kind;
+    let key = key_of(kind, part);
+    match find(text, text, entries, links, s.names, kind, key, part) {
+        Lookup::At(i) => known(stack, plan, s, kind, i as u16),
+        Lookup::Nothing => fresh(text, entries, links, stack, plan, s, row, key),
+    }
+}
+
+// A symbol or a key.
+pub fn name_row(
+    text: &[u8],
+    entries: &mut [u64; SymbolTable::MAX_ENTRIES],
+    links: &mut [u16; Links::SIZE],
+    stack: &[u64; Bundle::MAX_DEPTH],
+    plan: &mut [u16; Plan::SIZE],
+    s: State,
+    row: Row,
+) -> State
+    requires { ⌜ Ready (now text) (now stack) s × (10 ≤ row .kind) × Chained (now text) (now text) (now entries) (now links) (s .names) × (length (now plan) ≡ 1533) ⌝ }
+    ensures { λ r. ⌜ ((xs : List Row) → After (now (text .entry)) (now (entries .entry)) (now (links .entry)) (now (stack .entry)) (now (plan .entry)) xs s
+        → Next (now (text .entry)) (now (entries .exit)) (now (links .exit)) (now (stack .entry)) (now (plan .exit)) xs row s r) ⌝ }
+{
+    if is_bad(text.len(), row) {
+        return refuse(s, Error::InvalidRow);
+    }
+    let kind = row.kind;
+    if again(s.keyed, kind) {
+        return refuse(s, Error::UnexpectedKey);
+    }
+    let start = row.start;
+    let guess = plan[Plan::GUESSES + start % Plan::MODULUS];
+    if is_entry(entries, s.names, guess, kind, start, row.number) {
+        return known(stack, plan, s, kind, guess);
+    }
+    looked_up(text, entries, links, stack, plan, s, row)
+}

@@ -1,0 +1,111 @@
+// Writing rows over a text: judged first, then written.
+ghost use mathlib.Core.Path.{_≡_};
+ghost use mathlib.Core.Bool.{true};
+ghost use mathlib.Core.List.{List};
+ghost use Prim.Native.Nat.{ℕ};
+ghost use lib.Dec.{eqb, ltb};
+ghost use lib.ListN.{length, take};
+ghost use Rattle.format.specs.declared.row.Row.{Row};
+ghost use Rattle.format.specs.Choice.{_||_};
+ghost use Rattle.format.specs.Answer.{counted, stored};
+ghost use Rattle.format.specs.Error.{codeOf};
+ghost use Rattle.format.specs.Writing.{writing};
+ghost use Rattle.writer.specs.Judging.{Verdict, isRowError};
+ghost use Rattle.writer.specs.Answers.{answerOf, limitOf, rowsIn};
+use crate::judging::judge;
+use crate::name::Plan;
+use crate::putting::put;
+use crate::state::State;
+use format::Bundle;
+use format::Error;
+use format::Row;
+
+// The number of bytes written, or the error with its place.
+pub enum Written {
+    Done(usize),
+    Failed(Error, usize),
+}
+
+// How many rows are to be judged: none where there are too many, or the text is too long.
+fn limit(rows: usize, text: usize) -> usize
+    ensures { λ r. ⌜ r ≡ limitOf rows text ⌝ }
+{
+    if Row::MAX_COUNT < rows {
+        return 0;
+    }
+    if Bundle::MAX_BYTES < text {
+        return 0;
+    }
+    rows
+}
+
+// The error of a row, by its number.
+fn error_of(code: usize) -> Error
+    ensures { λ r. ⌜ (isRowError code ≡ true → codeOf r ≡ code) ⌝ }
+{
+    match code {
+        9 => Error::InvalidRow,
+        5 => Error::UnexpectedKey,
+        6 => Error::TooDeep,
+        3 => Error::InvalidUtf8,
+        _ => Error::TooManyEntries,
+    }
+}
+
+// Is an item still due?
+fn is_due(s: State) -> bool
+    ensures { λ r. ⌜ r ≡ (eqb (s .keyed) 1 || ltb 0 (s .depth)) ⌝ }
+{
+    if s.keyed == 1 {
+        return true;
+    }
+    0 < s.depth
+}
+
+// The answer, once the rows are judged.
+fn decide(rows: usize, text: usize, capacity: usize, s: State) -> Written
+    ensures { λ r. ⌜ ((rs : List Row) (bs plan : List ℕ) → length rs ≡ rows → length bs ≡ text → Verdict bs plan (take (limitOf rows text) rs) s → answerOf r ≡ counted (writing rs bs capacity)) ⌝ }
+{
+    if Row::MAX_COUNT < rows {
+        return Written::Failed(Error::TooManyRows, 0);
+    }
+    if Bundle::MAX_BYTES < text {
+        return Written::Failed(Error::TooLong, 0);
+    }
+    if s.error != 0 {
+        return Written::Failed(error_of(s.error), s.row);
+    }
+    if is_due(s) {
+        return Written::Failed(Error::Truncated, s.row);
+    }
+    if Bundle::MAX_BYTES < s.size {
+        return Written::Failed(Error::OutputTooLong, 0);
+    }
+    if capacity < s.size {
+        return Written::Failed(Error::OutputTooLong, 0);
+    }
+    Written::Done(s.size)
+}
+
+// How many rows are to be written.
+fn count_of(answer: Written, n: usize) -> usize
+    ensures { λ r. ⌜ r ≡ rowsIn (answerOf answer) n ⌝ }
+{
+    match answer {
+        Written::Done(_) => n,
+        Written::Failed(_, _) => 0,
+    }
+}
+
+// Writes the canonical encoding of rows over a text; on an error no byte is changed.
+pub fn write(rows: &[Row], text: &[u8], out: &mut [u8]) -> Written
+    ensures answer { λ r. ⌜ answerOf r ≡ counted (writing (now (rows .entry)) (now (text .entry)) (length (now (out .entry)))) ⌝ }
+    ensures buffer { λ _. ⌜ now (out .exit) ≡ stored (now (out .entry)) (writing (now (rows .entry)) (now (text .entry)) (length (now (out .entry)))) ⌝ }
+{
+    let mut plan = [0u16; Plan::SIZE];
+    let n = limit(rows.len(), text.len());
+    let s = judge(rows, text, &mut plan, n);
+    let answer = decide(rows.len(), text.len(), out.len(), s);
+    put(rows, text, &plan, out, count_of(answer, n));
+    answer
+}
