@@ -4,7 +4,7 @@ use mathlib.Core.Bool.{Bool, true, false}
 use Rattle.format.specs.declared.bundle.Bundle.{Bundle}
 use Rattle.format.specs.declared.error.Mode.{Mode}
 use Rattle.format.specs.declared.error.Mode.the-variants.{Lenient, Strict}
-use Rattle.format.specs.Answer.{failed, good}
+use Rattle.format.specs.Answer.{Failure, failed, good}
 use Rattle.format.specs.Answer as answer
 use Rattle.nachricht.specs.declared.Answer.{Answer}
 
@@ -12,6 +12,15 @@ abbrev pub modeOf : Bool → Mode
 modeOf true = Strict
 modeOf false = Lenient
 
+unfoldable pub failedAnswer : Failure → Answer
+failedAnswer f = record { error = f .code; place = f .place; side = f .side; count = 0; entries = 0; fields = 0 }
+
+-- the counts of a bundle
 unfoldable pub countsAnswer : answer.Answer Bundle → Answer
-countsAnswer (failed f) = record { error = f .code; place = f .place; side = f .side; count = 0; entries = 0; fields = 0 }
+countsAnswer (failed f) = failedAnswer f
 countsAnswer (good b) = record { error = 0; place = 0; side = 0; count = b .rows; entries = b .entries; fields = b .fields }
+
+-- the number of bytes written
+unfoldable pub countAnswer : answer.Answer ℕ → Answer
+countAnswer (failed f) = failedAnswer f
+countAnswer (good n) = record { error = 0; place = 0; side = 0; count = n; entries = 0; fields = 0 }

@@ -1,15 +1,20 @@
 // The C interface, built as the static library `libnachricht.a`.
 ghost use mathlib.Core.Path.{_≡_};
 ghost use lib.ListN.{length};
-ghost use Rattle.format.specs.Answer.{stored};
+ghost use Rattle.format.specs.Answer.{failure, counted, stored};
+ghost use Rattle.format.specs.Error.{codeOf};
 ghost use Rattle.format.specs.Limits.{max-rows};
 ghost use Rattle.format.specs.Reading.{options, counts};
 ghost use Rattle.format.specs.Rows as table;
+ghost use Rattle.format.specs.Writing.{writing};
 ghost use Rattle.reader.specs.Answers.{answerOf};
-ghost use Rattle.nachricht.specs.Answers.{modeOf, countsAnswer};
+ghost use Rattle.writer.specs.Answers as writer;
+ghost use Rattle.nachricht.specs.Answers.{modeOf, failedAnswer, countsAnswer, countAnswer};
+use format::Error;
 use format::Mode;
 use format::Row;
 use reader::Checked;
+use writer::Written;
 
 // An answer: the error's number or 0, its place and side, and the counts.
 #[repr(C)]
@@ -31,18 +36,24 @@ fn mode_of(strict: bool) -> Mode
     Mode::Lenient
 }
 
+fn failed(e: Error, place: usize) -> Answer
+    ensures { λ a. ⌜ a ≡ failedAnswer (failure (codeOf e) place) ⌝ }
+{
+    Answer {
+        error: e.code() as u64,
+        place: place as u64,
+        side: 0,
+        count: 0,
+        entries: 0,
+        fields: 0,
+    }
+}
+
 fn answer_of(r: Checked) -> Answer
     ensures { λ a. ⌜ a ≡ countsAnswer (answerOf r) ⌝ }
 {
     match r {
-        Checked::Failed(k, p) => Answer {
-            error: k.code() as u64,
-            place: p as u64,
-            side: 0,
-            count: 0,
-            entries: 0,
-            fields: 0,
-        },
+        Checked::Failed(e, p) => failed(e, p),
         Checked::Good(b) => Answer {
             error: 0,
             place: 0,
@@ -50,6 +61,22 @@ fn answer_of(r: Checked) -> Answer
             count: b.rows as u64,
             entries: b.entries as u64,
             fields: b.fields as u64,
+        },
+    }
+}
+
+fn written_of(r: Written) -> Answer
+    ensures { λ a. ⌜ a ≡ countAnswer (writer.answerOf r) ⌝ }
+{
+    match r {
+        Written::Failed(e, p) => failed(e, p),
+        Written::Done(n) => Answer {
+            error: 0,
+            place: 0,
+            side: 0,
+            count: n as u64,
+            entries: 0,
+            fields: 0,
         },
     }
 }
@@ -69,4 +96,13 @@ pub extern "C" fn nachricht_read(bytes: &[u8], strict: bool, rows: &mut [Row]) -
     ensures filled { λ _. ⌜ now (rows .exit) ≡ stored (now (rows .entry)) (table.rows (options (modeOf strict) (length (now (rows .entry)))) (now (bytes .entry))) ⌝ }
 {
     answer_of(reader::read_in(bytes, mode_of(strict), rows))
+}
+
+// Writes rows over a text.
+#[no_mangle]
+pub extern "C" fn nachricht_write(rows: &[Row], text: &[u8], out: &mut [u8]) -> Answer
+    ensures answer { λ r. ⌜ r ≡ countAnswer (counted (writing (now (rows .entry)) (now (text .entry)) (length (now (out .entry))))) ⌝ }
+    ensures buffer { λ _. ⌜ now (out .exit) ≡ stored (now (out .entry)) (writing (now (rows .entry)) (now (text .entry)) (length (now (out .entry)))) ⌝ }
+{
+    written_of(writer::write(rows, text, out))
 }

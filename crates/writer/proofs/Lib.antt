@@ -10,3 +10,7 @@ pub mod After
 pub mod LocalArray
 pub mod Borrowing
 pub mod Loop
+pub mod PutLaws
+pub mod WriteLaws
+pub mod WalkSteps
+pub mod Again

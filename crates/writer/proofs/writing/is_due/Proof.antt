@@ -1,15 +1,16 @@
+-- `writer::writing::is_due` meets its contract: a key has no value yet, or a container is open. Assumes nothing.
+use Rattle.format.specs.Choice.{_||_}
+use Rattle.format.proofs.Tests.{eqb-no, eqb-yes}
 use Rattle.writer.proofs.writing.is_due.Statement.{statement}
 use Rattle.writer.proofs.writing.is_due.Tie as tie
-use Rattle.writer.proofs.writing.is_due.Reads as reads
-use Rattle.writer.proofs.writing.is_due.Lts as lts
 
--- src/writing.rt:60:9
 returns : tie.Need-returns
-returns c = ?
+unfolding _||_
+returns c = rw (eqb-yes (c .if1 .taken))
 
--- src/writing.rt:56:1
 returns-2 : tie.Need-returns-2
-returns-2 c = ?
+unfolding _||_
+returns-2 c = rw (eqb-no (c .before .if1 .left))
 
 pub is-due-spec : {M : Type 1} → statement M
 is-due-spec = tie.close (tie.spec returns returns-2)

@@ -1,19 +1,17 @@
+-- `writer::writing::limit` meets its contract: all rows, or none past a limit. Assumes nothing.
+use mathlib.Core.Path.{sym}
+use Rattle.writer.proofs.WriteLaws.{limit-all, limit-rows, limit-text}
 use Rattle.writer.proofs.writing.limit.Statement.{statement}
 use Rattle.writer.proofs.writing.limit.Tie as tie
-use Rattle.writer.proofs.writing.limit.Reads as reads
-use Rattle.writer.proofs.writing.limit.Lts as lts
 
--- src/writing.rt:34:9
 returns : tie.Need-returns
-returns c = ?
+returns c = sym (limit-rows _ (c .if1 .taken))
 
--- src/writing.rt:37:9
 returns-2 : tie.Need-returns-2
-returns-2 c = ?
+returns-2 c = sym (limit-text _ (c .if2 .taken))
 
--- src/writing.rt:30:1
 returns-3 : tie.Need-returns-3
-returns-3 c = ?
+returns-3 c = sym (limit-all (c .before .if1 .left) (c .if2 .left))
 
 pub limit-spec : {M : Type 1} → statement M
 limit-spec = tie.close (tie.spec returns returns-2 returns-3)

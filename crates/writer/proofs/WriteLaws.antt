@@ -1,0 +1,225 @@
+-- The answer of writing, case by case, and the rows that are written with it. Assumes nothing.
+use mathlib.Core.Path.{_≡_, refl, sym, ap, _∙_}
+use mathlib.Core.Logic.{_≢_}
+use mathlib.Core.Bool.{Bool, true, false}
+use mathlib.Core.List.{List, [], append-nil}
+use Prim.Native.Nat.{ℕ, zero, suc, _≤_, _<_, min}
+use native.Mathlib.Nat.{le-refl}
+use native.Mathlib.Omega.{arith}
+use lib.Dec.{eqb, ltb}
+use lib.ListN.{length, take, getD, length-take, length-map}
+use lib.Seq.{take-length}
+use Rattle.format.specs.declared.row.Row.{Row}
+use Rattle.format.specs.Choice.{_||_, pick}
+use Rattle.format.specs.Limits.{max-bytes, max-rows}
+use Rattle.format.specs.Answer.{Answer, counted, fail, failed, good, stored, then}
+use Rattle.format.specs.Names.{namesFrom}
+use Rattle.format.specs.Place.{due}
+use Rattle.format.specs.Canonical.{canonical, canonicalFrom}
+use Rattle.format.specs.Rows.{itemsAt}
+use Rattle.format.specs.Writing.{Progress, begin, fitted, judge, writing}
+use Rattle.format.proofs.Tests.{cases, eqb-no, eqb-true, equal, failed-good, good-inj, ltb-no, ltb-yes, none-some, or-no, order, pick-no, pick-yes}
+use Rattle.format.proofs.Steps.{then-good}
+use Rattle.format.proofs.Fitting.{fitted-fits, fitted-good, fitted-over}
+use Rattle.symbols.specs.Entry.{nameIn, namesIn}
+use Rattle.writer.specs.declared.state.State.{State}
+use Rattle.writer.specs.declared.writing.Written.{Written}
+use Rattle.writer.specs.Stack.{openedOf}
+use Rattle.writer.specs.Plan.{Measured, Putting}
+use Rattle.writer.specs.Judging.{Passed, Verdict, isRowError}
+use Rattle.writer.specs.Answers.{answerOf, limitOf, rowsIn}
+
+-- ---- how many rows are judged
+
+pub limit-rows : {rows : ℕ} (text : ℕ) → max-rows < rows → limitOf rows text ≡ 0
+unfolding limitOf _||_
+limit-rows text l = pick-yes _ _ (rw (ltb-yes l))
+
+pub limit-text : {text : ℕ} (rows : ℕ) → max-bytes < text → limitOf rows text ≡ 0
+unfolding limitOf _||_
+limit-text rows l = pick-yes _ _ (cases (ltb max-rows rows) (λ m. rw m) (λ m. rw (m, ltb-yes l)))
+
+pub limit-all : {rows text : ℕ} → rows ≤ max-rows → text ≤ max-bytes → limitOf rows text ≡ rows
+unfolding limitOf
+limit-all l m = pick-no _ _ (or-no (ltb-no l) (ltb-no m))
+
+-- what `judge` asks
+pub judge-asks : (rs : List Row) (text plan : List ℕ) (n : ℕ) → n ≡ limitOf (length rs) (length text) → length plan ≡ 1533 → (n ≤ length rs) × (n ≤ 1024) × (0 < n → length text ≤ 16384) × (length plan ≡ 1533)
+judge-asks rs text plan n e long =
+    order (length rs) max-rows
+    (λ l. order (length text) max-bytes (λ m. let z = e ∙ limit-all l m in (omega arith, omega arith, λ _. m, long)) (λ m. let z = e ∙ limit-text (length rs) m in (omega arith, omega arith, λ q. absurd (omega arith), long)))
+    (λ l. let z = e ∙ limit-rows (length text) l in (omega arith, omega arith, λ q. absurd (omega arith), long))
+
+-- ---- the error of a row
+
+-- the last of them, where it is none of the others
+pub last-error : (n : ℕ) → n ≢ 9 → n ≢ 5 → n ≢ 6 → n ≢ 3 → isRowError n ≡ true → 8 ≡ n
+unfolding isRowError _||_
+last-error n a b c d e = sym (eqb-true n 8 (rw (eqb-no a, eqb-no b, eqb-no c, eqb-no d) at e))
+
+-- ---- writing, case by case
+
+opened-length : (st : List ℕ) (d l : ℕ) → length (openedOf st d l) ≡ d
+unfolding openedOf
+opened-length st zero l = refl
+opened-length st (suc d) l = ap suc (opened-length st d (getD st d 0))
+
+-- an item is still due after the rows
+abbrev pub dueIn : State → Bool
+dueIn s = eqb (s .keyed) 1 || ltb 0 (s .depth)
+
+module _ {text plan : List ℕ} {rs : List Row} {s : State} (g : Passed text plan rs s) where
+  passed-due : due (g .after .progress .place) ≡ dueIn s
+  unfolding due
+  passed-due = rw (g .after .stands .key, g .after .stands .opened, opened-length (g .st) (s .depth) (s .left))
+
+  passed-ends : judge text begin rs ≡ pick (dueIn s) (fail 2 (s .row)) (good (g .after .progress))
+  unfolding judge
+  passed-ends = rw (append-nil rs) at (g .after .run []) ∙ rw (passed-due, g .after .row)
+
+  measured : Measured text text (g .es) (g .links) plan (itemsAt text rs) (s .names) (s .size)
+  measured = rw (g .after .items) at (g .after .measured)
+
+  few-names : length (namesFrom [] (itemsAt text rs)) ≤ 256
+  unfolding namesIn
+  few-names =
+      let m = measured in
+      let e : length (take (s .names) (g .es)) ≡ length (namesFrom [] (itemsAt text rs)) = sym (length-map (take (s .names) (g .es)) (nameIn text text)) ∙ ap length (m .names) in
+      rw (← e, length-take (s .names) (g .es)) (omega (arith, m .table .table .few))
+
+module _ (rs : List Row) (text : List ℕ) (capacity : ℕ) where
+  writing-rows : max-rows < length rs → writing rs text capacity ≡ fail 7 0
+  unfolding writing
+  writing-rows l = pick-yes _ _ (ltb-yes l)
+
+  writing-text : length rs ≤ max-rows → max-bytes < length text → writing rs text capacity ≡ fail 1 0
+  unfolding writing
+  writing-text l m = pick-no _ _ (ltb-no l) ∙ pick-yes _ _ (ltb-yes m)
+
+  module _ (few : length rs ≤ max-rows) (short : length text ≤ max-bytes) where
+    writing-judged : writing rs text capacity ≡ then (judge text begin rs) (λ s. fitted capacity (canonical (s .items)))
+    unfolding writing
+    writing-judged = pick-no _ _ (ltb-no few) ∙ pick-no _ _ (ltb-no short)
+
+    writing-refused : (k p : ℕ) → judge text begin rs ≡ fail k p → writing rs text capacity ≡ fail k p
+    unfolding then fail
+    writing-refused k p e = writing-judged ∙ rw e
+
+    module _ {plan : List ℕ} {s : State} (g : Passed text plan rs s) where
+      writing-due : dueIn s ≡ true → writing rs text capacity ≡ fail 2 (s .row)
+      writing-due d = writing-refused 2 (s .row) (passed-ends g ∙ pick-yes _ _ d)
+
+      writing-fitted : dueIn s ≡ false → writing rs text capacity ≡ fitted capacity (canonical (itemsAt text rs))
+      unfolding then
+      writing-fitted d = writing-judged ∙ rw (passed-ends g ∙ pick-no _ _ d, g .after .items)
+
+-- ---- the answer of `decide`
+
+answers-fail : (rs : List Row) (text : List ℕ) (capacity k p : ℕ) → writing rs text capacity ≡ fail k p → fail k p ≡ counted (writing rs text capacity)
+unfolding counted then fail
+answers-fail rs text capacity k p e = rw e
+
+module _ (rs : List Row) (bs plan : List ℕ) (rows text capacity : ℕ) (s : State) (er : length rs ≡ rows) (eb : length bs ≡ text) (v : Verdict bs plan (take (limitOf rows text) rs) s) where
+  pub answer-rows : max-rows < rows → fail 7 0 ≡ counted (writing rs bs capacity)
+  answer-rows l = answers-fail rs bs capacity 7 0 (writing-rows rs bs capacity (rw er l))
+
+  pub answer-text : rows ≤ max-rows → max-bytes < text → fail 1 0 ≡ counted (writing rs bs capacity)
+  answer-text l m = answers-fail rs bs capacity 1 0 (writing-text rs bs capacity (rw er l) (rw eb m))
+
+  module _ (few : rows ≤ max-rows) (short : text ≤ max-bytes) where
+    all-judged : Verdict bs plan rs s
+    all-judged = rw (limit-all few short, ← er, take-length rs) at v
+
+    pub answer-refused : (k : ℕ) → s .error ≢ 0 → (isRowError (s .error) ≡ true → k ≡ s .error) → fail k (s .row) ≡ counted (writing rs bs capacity)
+    answer-refused k n h = let (e, j) = all-judged .refused n in rw (h e) (answers-fail rs bs capacity (s .error) (s .row) (writing-refused rs bs capacity (rw er few) (rw eb short) (s .error) (s .row) j))
+
+    module _ (fine : s .error ≡ 0) where
+      pub answer-due : dueIn s ≡ true → fail 2 (s .row) ≡ counted (writing rs bs capacity)
+      answer-due d = answers-fail rs bs capacity 2 (s .row) (writing-due rs bs capacity (rw er few) (rw eb short) (all-judged .passed fine) d)
+
+      fits-in : dueIn s ≡ false → writing rs bs capacity ≡ fitted capacity (canonical (itemsAt bs rs))
+      fits-in d = writing-fitted rs bs capacity (rw er few) (rw eb short) (all-judged .passed fine) d
+
+      size-is : s .size ≡ length (canonical (itemsAt bs rs))
+      size-is = measured (all-judged .passed fine) .length-is
+
+      pub answer-over : dueIn s ≡ false → min max-bytes capacity < s .size → fail 10 0 ≡ counted (writing rs bs capacity)
+      answer-over d l = answers-fail rs bs capacity 10 0 (fits-in d ∙ fitted-over capacity (canonical (itemsAt bs rs)) (rw (← size-is) l))
+
+      pub answer-good : dueIn s ≡ false → s .size ≤ min max-bytes capacity → good (s .size) ≡ counted (writing rs bs capacity)
+      unfolding counted then
+      answer-good d l = rw (fits-in d ∙ fitted-fits capacity (canonical (itemsAt bs rs)) (rw (← size-is) l), size-is)
+
+-- ---- the rows that are written
+
+-- rows that pass are all taken
+judged-good : (text plan : List ℕ) (rs : List Row) (s : State) (u : Progress) → Verdict text plan rs s → judge text begin rs ≡ good u → Passed text plan rs s × (u .items ≡ itemsAt text rs)
+unfolding fail
+judged-good text plan rs s u v j =
+    equal (s .error) 0
+    (λ z.
+    let g = v .passed z in
+    cases (dueIn s) (λ d. failed-good (sym (passed-ends g ∙ pick-yes _ _ d) ∙ j)) (λ d. (g, ap (λ (t : Progress). t .items) (sym (good-inj (sym (passed-ends g ∙ pick-no _ _ d) ∙ j))) ∙ g .after .items)))
+    (λ z. failed-good (sym (v .refused z .1) ∙ j))
+
+-- all rows can be written as they were planned, or none
+putting-all : {text plan : List ℕ} {rs : List Row} {s : State} (g : Passed text plan rs s) (capacity : ℕ) → length text ≤ max-bytes → length (canonical (itemsAt text rs)) ≤ capacity → Putting text plan rs capacity
+putting-all g capacity short fits =
+    let m = measured g in
+    record { long = m .plan-size; short = λ _. short; fine = g .after .fine; planned = m .planned; few = few-names g; fits = fits }
+
+putting-none : (text plan : List ℕ) (rs : List Row) (capacity : ℕ) → length plan ≡ 1533 → Putting text plan (take 0 rs) capacity
+unfolding namesFrom canonical canonicalFrom
+putting-none text plan rs capacity long =
+    record {
+      long = long;
+      short = λ z. absurd (omega arith);
+      fine = tt;
+      planned = record { long = omega arith; refers = λ j x q. none-some q };
+      few = omega arith;
+      fits = omega arith;
+    }
+
+-- rows that are written as bs
+record Wrote (text plan : List ℕ) (rs : List Row) (capacity : ℕ) (bs : List ℕ) : Type 0 where
+  few : length rs ≤ max-rows
+  short : length text ≤ max-bytes
+  putting : Putting text plan rs capacity
+  bytes : bs ≡ canonical (itemsAt text rs)
+
+wrote : (text plan : List ℕ) (rs : List Row) (capacity : ℕ) (s : State) (bs : List ℕ) → Verdict text plan (take (limitOf (length rs) (length text)) rs) s → writing rs text capacity ≡ good bs → Wrote text plan rs capacity bs
+unfolding fail
+wrote text plan rs capacity s bs v e =
+    order (length rs) max-rows
+    (λ few. order (length text) max-bytes
+    (λ short.
+    let (u, j, f) = then-good (judge text begin rs) (λ t. fitted capacity (canonical (t .items))) (sym (writing-judged rs text capacity few short) ∙ e) in
+    let (fits, bytes) = fitted-good capacity (canonical (u .items)) f in
+    let (g, items) = judged-good text plan rs s u (rw (limit-all few short, take-length rs) at v) j in
+    record { few = few; short = short; putting = putting-all g capacity short (rw (← items) (omega (arith, fits))); bytes = sym bytes ∙ ap canonical items })
+    (λ m. failed-good (sym (writing-text rs text capacity few m) ∙ e)))
+    (λ l. failed-good (sym (writing-rows rs text capacity l) ∙ e))
+
+module _ (rs : List Row) (text plan out : List ℕ) (s : State) (v : Verdict text plan (take (limitOf (length rs) (length text)) rs) s) (long : length plan ≡ 1533) where
+  abbrev n : ℕ
+  n = limitOf (length rs) (length text)
+
+  by-answer : (k : ℕ) (w : Answer (List ℕ)) → writing rs text (length out) ≡ w → k ≡ rowsIn (counted w) n
+      → (k ≤ length rs) × (Putting text plan (take k rs) (length out) × (stored out (good (canonical (itemsAt text (take k rs)))) ≡ stored out w))
+  unfolding rowsIn counted then stored canonical canonicalFrom
+  by-answer k (failed f) h e = rw e (omega arith, (putting-none text plan rs (length out) long, refl))
+  by-answer k (good bs) h e =
+      let w = wrote text plan rs (length out) s bs v h in
+      rw (e, limit-all (w .few) (w .short), take-length rs) (le-refl (length rs), (w .putting, rw (w .bytes)))
+
+  module _ (r : Written) (k : ℕ) (e : answerOf r ≡ counted (writing rs text (length out))) (ek : k ≡ rowsIn (answerOf r) n) where
+    all : (k ≤ length rs) × (Putting text plan (take k rs) (length out) × (stored out (good (canonical (itemsAt text (take k rs)))) ≡ stored out (writing rs text (length out))))
+    all = by-answer k (writing rs text (length out)) refl (ek ∙ ap (λ (a : Answer ℕ). rowsIn a n) e)
+
+    -- what `put` asks
+    pub put-asks : (k ≤ length rs) × Putting text plan (take k rs) (length out)
+    put-asks = (all .0, all .1 .0)
+
+    -- and what it leaves
+    pub put-leaves : stored out (good (canonical (itemsAt text (take k rs)))) ≡ stored out (writing rs text (length out))
+    put-leaves = all .1 .1
