@@ -1,0 +1,29 @@
+-- `nachricht::answer_of` meets its contract: the answer of each case of `Checked`. Assumes nothing.
+use mathlib.Core.Path.{sym, ap, _∙_}
+use Rattle.format.specs.Answer.{fail}
+use Rattle.reader.specs.declared.checking.Checked.{Checked}
+use Rattle.reader.specs.Answers.{answerOf}
+use Rattle.nachricht.specs.Answers.{countsAnswer}
+use borrow.Author.Needs.{needs}
+use Rattle.nachricht.proofs.answer_of.Statement.{statement}
+use Rattle.nachricht.proofs.answer_of.Tie as tie
+
+enum-known-r : tie.Need-enum-known-r
+enum-known-r c = search needs
+
+failed-requires : tie.Need-failed-requires
+failed-requires c κs = search needs
+
+enum-known-r-2 : tie.Need-enum-known-r-2
+enum-known-r-2 c = search needs
+
+returns : tie.Need-returns
+unfolding countsAnswer fail
+returns c = c .failed .ensures ∙ sym (ap (λ (a : Checked). countsAnswer (answerOf a)) (c .before .before .r .given .1))
+
+returns-2 : tie.Need-returns-2
+unfolding countsAnswer
+returns-2 c = sym (ap (λ (a : Checked). countsAnswer (answerOf a)) (c .before .r2 .given .1))
+
+pub answer-of-spec : {M : Type 1} → statement M
+answer-of-spec = tie.close (tie.spec enum-known-r failed-requires enum-known-r-2 returns returns-2)
