@@ -7,3 +7,4 @@ pub mod AsciiRuns
 pub mod Ranges
 pub mod Wrote
 pub mod OutputLaws
+pub mod WidthLaws

@@ -4,6 +4,7 @@ ghost use Prim.Native.Nat.{_+_, _-_, _≤_, _<_};
 ghost use lib.ListN.{length, take, drop};
 ghost use Rattle.format.specs.Header.{shift, bigEndian, following, headerOf, width, header, isLong};
 ghost use Rattle.wire.specs.Heads.{wholeOf};
+ghost use Rattle.wire.specs.Widths.{reach};
 use format::Header;
 
 // A header that was read, or bytes that end inside it.
@@ -106,32 +107,24 @@ pub fn header_at(s: &[u8], at: usize) -> Head
     })
 }
 
-// The fewest bytes, from 1 to 8, that hold p.
+// 1 where p is at least a bound, else 0.
+fn reaches(bound: u64, p: u64) -> usize
+    ensures { λ r. ⌜ (r ≡ reach bound p) × (r ≤ 1) ⌝ }
+{
+    (bound <= p) as usize
+}
+
+// The fewest bytes, from 1 to 8, that hold p: a sum, since branches on payloads of mixed widths cannot be foretold.
 pub fn width(p: u64) -> usize
     ensures { λ r. ⌜ r ≡ width p ⌝ }
 {
-    if p < 256 {
-        return 1;
-    }
-    if p < 65536 {
-        return 2;
-    }
-    if p < 16777216 {
-        return 3;
-    }
-    if p < 4294967296 {
-        return 4;
-    }
-    if p < 1099511627776 {
-        return 5;
-    }
-    if p < 281474976710656 {
-        return 6;
-    }
-    if p < 72057594037927936 {
-        return 7;
-    }
-    8
+    1 + reaches(256, p)
+        + reaches(65536, p)
+        + reaches(16777216, p)
+        + reaches(4294967296, p)
+        + reaches(1099511627776, p)
+        + reaches(281474976710656, p)
+        + reaches(72057594037927936, p)
 }
 
 // The length of the shortest header.
@@ -139,15 +132,9 @@ pub fn header_len(code: u8, p: u64) -> usize
     ensures { λ r. ⌜ r ≡ length (header code p) ⌝ }
 {
     if code == 0 {
-        if p <= Header::MAX_INLINE_BYTES {
-            return 1;
-        }
-        return 1 + width(p);
+        return width(p) + reaches(Header::MAX_INLINE_BYTES + 1, p);
     }
-    if p <= Header::MAX_INLINE {
-        return 1;
-    }
-    1 + width(p)
+    width(p) + reaches(Header::MAX_INLINE + 1, p)
 }
 
 // Is the header longer than it has to be?

@@ -15,7 +15,7 @@ use Rattle.format.specs.Item.{Item, hasContent}
 use Rattle.format.specs.Canonical.{full}
 use Rattle.format.specs.Rows.{contentOf, itemAt}
 use Rattle.format.specs.Writing.{isBad}
-use Rattle.format.proofs.Tests.{cases, clash, order, eqb-yes, eqb-no, eqb-true, leb-yes, leb-no, leb-true, ltb-yes, ltb-no, ltb-false, or-false, pick-yes, pick-no}
+use Rattle.format.proofs.Tests.{cases, clash, order, eqb-yes, eqb-no, eqb-true, leb-yes, leb-no, leb-true, ltb-yes, ltb-no, ltb-false, or-false, and-no-right, pick-yes, pick-no}
 use Rattle.format.proofs.Numbers.{length-digits, width-holds}
 use Rattle.format.proofs.Headers.{length-header}
 use Rattle.format.proofs.Encoding.{full-other}
@@ -32,6 +32,11 @@ or-none : (b : Bool) → b || false ≡ b
 unfolding _||_
 or-none true = refl
 or-none false = refl
+
+and-all : (b : Bool) → b && true ≡ b
+unfolding _&&_
+and-all true = refl
+and-all false = refl
 
 -- ---- a row with no start
 
@@ -82,9 +87,16 @@ module _ (k n : ℕ) where
   unfolding badNumber _&&_ _||_
   number-single h = rw (ltb-no {a = k} {b = 3} (omega arith), eqb-yes h, eqb-no {a = k} {b = 7} (λ e. omega arith)) (sym (or-none (leb 4294967296 n)))
 
-  pub number-negative : k ≡ 7 → eqb n 18446744073709551615 ≡ badNumber k n
+  number-high : 5 ≤ k → badNumber k n ≡ eqb k 7 && eqb n 18446744073709551615
   unfolding badNumber _&&_ _||_
-  number-negative h = rw (ltb-no {a = k} {b = 3} (omega arith), eqb-no {a = k} {b = 3} (λ e. omega arith), eqb-yes h)
+  number-high h = rw (ltb-no {a = k} {b = 3} (omega arith), eqb-no {a = k} {b = 3} (λ e. omega arith))
+
+  pub number-usual : 5 ≤ k → n ≢ 18446744073709551615 → false ≡ badNumber k n
+  number-usual h e = sym (number-high h ∙ and-no-right _ (eqb-no e))
+
+  pub number-least : 5 ≤ k → n ≡ 18446744073709551615 → eqb k 7 ≡ badNumber k n
+  unfolding _&&_
+  number-least h e = sym (number-high h ∙ ap (λ b. eqb k 7 && b) (eqb-yes e) ∙ and-all (eqb k 7))
 
   pub number-other : 3 ≤ k → k ≢ 3 → k ≢ 7 → false ≡ badNumber k n
   unfolding badNumber _&&_ _||_

@@ -37,14 +37,18 @@ pub fn outside(len: usize, start: usize, number: u64) -> bool
 pub fn bad_number(kind: u8, number: u64) -> bool
     ensures { λ r. ⌜ r ≡ badNumber kind number ⌝ }
 {
+    // integers first, and the number before the kind: signs of integers cannot be foretold
+    if 5 <= kind {
+        if number != 18446744073709551615 {
+            return false;
+        }
+        return kind == 7;
+    }
     if kind < 3 {
         return 0 < number;
     }
     if kind == 3 {
         return 4294967296 <= number;
-    }
-    if kind == 7 {
-        return number == 18446744073709551615;
     }
     false
 }

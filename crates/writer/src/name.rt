@@ -32,7 +32,7 @@ use symbols::lookup::Lookup;
 use symbols::lookup::enter;
 use symbols::lookup::find;
 use wire::header::header_len;
-use wire::utf8::is_utf8_name;
+use wire::utf8::is_utf8;
 
 // For each row that is a name its reference, and then guesses: the entry of a name that begins at a place in the text, if it is still there.
 pub struct Plan;
@@ -151,7 +151,7 @@ fn looked_up(
         → Next (now (text .entry)) (now (entries .exit)) (now (links .exit)) (now (stack .entry)) (now (plan .exit)) xs row s r) ⌝ }
 {
     let part = content(text, row);
-    if !is_utf8_name(part) {
+    if !is_utf8(part) {
         return refuse(s, Error::InvalidUtf8);
     }
     let kind = row.kind;

@@ -1,41 +1,71 @@
--- `wire::width` meets its contract: the tests are those of the definition.
-use borrow.Author.Tests.{lt-ltb, le-ltb}
-use Rattle.format.specs.Choice.{pick}
-use Rattle.format.specs.Header.{width, widthFrom}
+use mathlib.Core.Path.{_∙_}
+use Rattle.wire.proofs.WidthLaws.{width-is}
+-- `wire::header::width` meets its contract: the sum of what is reached. Assumes nothing.
+use borrow.Author.Needs.{needs}
 use Rattle.wire.proofs.header.width.Statement.{statement}
 use Rattle.wire.proofs.header.width.Tie as tie
 
+reaches-requires : tie.Need-reaches-requires
+reaches-requires c κs = search needs
+
+add-result : tie.Need-add-result
+add-result c = search needs
+
+reaches-requires-2 : tie.Need-reaches-requires-2
+reaches-requires-2 c κs = search needs
+
+add-result-2 : tie.Need-add-result-2
+add-result-2 c = search needs
+
+reaches-requires-3 : tie.Need-reaches-requires-3
+reaches-requires-3 c κs = search needs
+
+add-result-3 : tie.Need-add-result-3
+add-result-3 c = search needs
+
+reaches-requires-4 : tie.Need-reaches-requires-4
+reaches-requires-4 c κs = search needs
+
+add-result-4 : tie.Need-add-result-4
+add-result-4 c = search needs
+
+reaches-requires-5 : tie.Need-reaches-requires-5
+reaches-requires-5 c κs = search needs
+
+add-result-5 : tie.Need-add-result-5
+add-result-5 c = search needs
+
+reaches-requires-6 : tie.Need-reaches-requires-6
+reaches-requires-6 c κs = search needs
+
+add-result-6 : tie.Need-add-result-6
+add-result-6 c = search needs
+
+reaches-requires-7 : tie.Need-reaches-requires-7
+reaches-requires-7 c κs = search needs
+
+add-result-7 : tie.Need-add-result-7
+add-result-7 c = search needs
+
 returns : tie.Need-returns
-unfolding width widthFrom pick
-returns c = simp (lt-ltb _ _ (c .if1 .taken))
-
-returns-2 : tie.Need-returns-2
-unfolding width widthFrom pick
-returns-2 c = simp (le-ltb _ _ (c .before .if1 .left), lt-ltb _ _ (c .if2 .taken))
-
-returns-3 : tie.Need-returns-3
-unfolding width widthFrom pick
-returns-3 c = simp (le-ltb _ _ (c .before .before .if1 .left), le-ltb _ _ (c .before .if2 .left), lt-ltb _ _ (c .if3 .taken))
-
-returns-4 : tie.Need-returns-4
-unfolding width widthFrom pick
-returns-4 c = simp (le-ltb _ _ (c .before .before .before .if1 .left), le-ltb _ _ (c .before .before .if2 .left), le-ltb _ _ (c .before .if3 .left), lt-ltb _ _ (c .if4 .taken))
-
-returns-5 : tie.Need-returns-5
-unfolding width widthFrom pick
-returns-5 c = simp (le-ltb _ _ (c .before .before .before .before .if1 .left), le-ltb _ _ (c .before .before .before .if2 .left), le-ltb _ _ (c .before .before .if3 .left), le-ltb _ _ (c .before .if4 .left), lt-ltb _ _ (c .if5 .taken))
-
-returns-6 : tie.Need-returns-6
-unfolding width widthFrom pick
-returns-6 c = simp (le-ltb _ _ (c .before .before .before .before .before .if1 .left), le-ltb _ _ (c .before .before .before .before .if2 .left), le-ltb _ _ (c .before .before .before .if3 .left), le-ltb _ _ (c .before .before .if4 .left), le-ltb _ _ (c .before .if5 .left), lt-ltb _ _ (c .if6 .taken))
-
-returns-7 : tie.Need-returns-7
-unfolding width widthFrom pick
-returns-7 c = simp (le-ltb _ _ (c .before .before .before .before .before .before .if1 .left), le-ltb _ _ (c .before .before .before .before .before .if2 .left), le-ltb _ _ (c .before .before .before .before .if3 .left), le-ltb _ _ (c .before .before .before .if4 .left), le-ltb _ _ (c .before .before .if5 .left), le-ltb _ _ (c .before .if6 .left), lt-ltb _ _ (c .if7 .taken))
-
-returns-8 : tie.Need-returns-8
-unfolding width widthFrom pick
-returns-8 c = simp (le-ltb _ _ (c .before .before .before .before .before .before .if1 .left), le-ltb _ _ (c .before .before .before .before .before .if2 .left), le-ltb _ _ (c .before .before .before .before .if3 .left), le-ltb _ _ (c .before .before .before .if4 .left), le-ltb _ _ (c .before .before .if5 .left), le-ltb _ _ (c .before .if6 .left), le-ltb _ _ (c .if7 .left))
+returns c = rw (c .reaches7 .ensures .0, c .before .reaches6 .ensures .0, c .before .before .reaches5 .ensures .0, c .before .before .before .reaches4 .ensures .0, c .before .before .before .before .reaches3 .ensures .0, c .before .before .before .before .before .reaches2 .ensures .0, c .before .before .before .before .before .before .reaches .ensures .0) (width-is (c .before .before .before .before .before .before .before .args .p))
 
 pub width-spec : {M : Type 1} → statement M
-width-spec = tie.close (tie.spec returns returns-2 returns-3 returns-4 returns-5 returns-6 returns-7 returns-8)
+width-spec =
+    tie.close
+    (tie.spec
+    reaches-requires
+    add-result
+    reaches-requires-2
+    add-result-2
+    reaches-requires-3
+    add-result-3
+    reaches-requires-4
+    add-result-4
+    reaches-requires-5
+    add-result-5
+    reaches-requires-6
+    add-result-6
+    reaches-requires-7
+    add-result-7
+    returns)

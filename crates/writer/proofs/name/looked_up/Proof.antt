@@ -20,8 +20,8 @@ content-requires c κs =
     let p = c .before .pre in
     (p .0 .short, p .1 .fine, has-content (c .before .args .text .now) (c .before .args .row) (p .1 .name) (p .1 .fine))
 
-is-utf8-name-requires : tie.Need-is-utf8-name-requires
-is-utf8-name-requires c κs = search needs
+is-utf8-requires : tie.Need-is-utf8-requires
+is-utf8-requires c κs = search needs
 
 refuse-requires : tie.Need-refuse-requires
 refuse-requires c κs = search needs
@@ -32,7 +32,7 @@ returns c = λ xs a.
     let r = c .before .before .before .before .before .args .row in
     let w = p .1 in
     refuse-next a r 3 (c .refuse .ensures) (λ z. omega arith) error-3
-    (name-invalid a r (w .name) (w .fine) (w .alone) (ap not (ap utf8 (sym (c .before .before .before .content .ensures)) ∙ sym (c .before .before .is-utf8-name .ensures)) ∙ c .before .if1 .taken))
+    (name-invalid a r (w .name) (w .fine) (w .alone) (ap not (ap utf8 (sym (c .before .before .before .content .ensures)) ∙ sym (c .before .before .is-utf8 .ensures)) ∙ c .before .if1 .taken))
 
 key-of-requires : tie.Need-key-of-requires
 key-of-requires c κs = 
@@ -80,14 +80,14 @@ returns-2 c = λ xs a.
     known-next a r (p .1) (p .0) _ (omega (arith, index-small _ (p .2) i)) (looked-up text r (p .1 .name) (p .1 .fine) _ (c .before .before .before .before .before .before .before .before .before .before .before .content .ensures) i) (c .known .ensures .0) (c .known .ensures .1)
 
 returns-3 : tie.Need-returns-3
-returns-3 c = λ xs a. c .fresh .ensures xs a (ap utf8 (sym (c .before .before .before .before .before .before .before .before .before .before .before .before .content .ensures)) ∙ sym (c .before .before .before .before .before .before .before .before .before .before .before .is-utf8-name .ensures) ∙ not-false (c .before .before .before .before .before .before .before .before .before .before .if1 .left))
+returns-3 c = λ xs a. c .fresh .ensures xs a (ap utf8 (sym (c .before .before .before .before .before .before .before .before .before .before .before .before .content .ensures)) ∙ sym (c .before .before .before .before .before .before .before .before .before .before .before .is-utf8 .ensures) ∙ not-false (c .before .before .before .before .before .before .before .before .before .before .if1 .left))
 
 pub looked-up-spec : {M : Type 1} → statement M
 looked-up-spec =
     tie.close
     (tie.spec
     content-requires
-    is-utf8-name-requires
+    is-utf8-requires
     refuse-requires
     returns
     key-of-requires
