@@ -1,11 +1,11 @@
 -- The width of a payload is a sum of what it reaches, and so is the length of a header. Assumes nothing.
-use mathlib.Core.Path.{_≡_, refl, ap, _∙_}
+use mathlib.Core.Path.{_≡_, refl, ap, sym, _∙_}
 use Prim.Native.Nat.{ℕ, zero, suc, _+_, _*_, _^_, _≤_, _<_}
 use native.Mathlib.Nat.{pow-suc}
 use native.Mathlib.Numerals.{add-one}
 use native.Mathlib.Omega.{arith}
 use mathlib.Core.Bool.{Bool, true, false}
-use lib.Dec.{leb}
+use lib.Dec.{leb, ltb}
 use lib.ListN.{length}
 use mir.Val.{boolByte}
 use Rattle.format.specs.Choice.{pick}
@@ -63,3 +63,10 @@ length-sum code p b e =
     order b p
     (λ l. length-long code p (omega arith) ∙ omega (arith, reach-yes l))
     (λ l. length-short code p (omega arith) ∙ omega (arith, reach-no l, width-sum p, none 7 1 p (omega arith)))
+
+-- A header of one byte, or of more.
+pub short-is : (code p : ℕ) → ltb (length (header code p)) 2 ≡ ltb (p + shift code) 24
+short-is code p =
+    order 24 (p + shift code)
+    (λ h. ltb-no {a = length (header code p)} {b = 2} (omega (arith, length-long code p h, width-sum p)) ∙ sym (ltb-no h))
+    (λ h. ltb-yes {a = length (header code p)} {b = 2} (omega (arith, length-short code p h)) ∙ sym (ltb-yes h))

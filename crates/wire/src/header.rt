@@ -1,7 +1,9 @@
 // A header read at an offset, and the length of the shortest one.
 ghost use mathlib.Core.Path.{_≡_};
 ghost use Prim.Native.Nat.{_+_, _-_, _≤_, _<_};
+ghost use lib.Dec.{ltb};
 ghost use lib.ListN.{length, take, drop};
+ghost use Rattle.format.specs.Limits.{max-inline};
 ghost use Rattle.format.specs.Header.{shift, bigEndian, following, headerOf, width, header, isLong};
 ghost use Rattle.wire.specs.Heads.{wholeOf};
 ghost use Rattle.wire.specs.Widths.{reach};
@@ -127,6 +129,16 @@ pub fn width(p: u64) -> usize
         + reaches(72057594037927936, p)
 }
 
+// Does the payload stand in the lead byte?
+pub fn is_inline(code: u8, p: u64) -> bool
+    ensures { λ r. ⌜ r ≡ ltb (p + shift code) (max-inline + 1) ⌝ }
+{
+    if code == 0 {
+        return p <= Header::MAX_INLINE_BYTES;
+    }
+    p <= Header::MAX_INLINE
+}
+
 // The length of the shortest header.
 pub fn header_len(code: u8, p: u64) -> usize
     ensures { λ r. ⌜ r ≡ length (header code p) ⌝ }
@@ -145,5 +157,10 @@ pub fn is_long(h: Header) -> bool
     if sz as u64 <= Header::MAX_INLINE {
         return false;
     }
-    header_len(h.code, h.payload) < h.size
+    // most: one byte after the lead byte
+    let size = h.size;
+    if size == 2 {
+        return is_inline(h.code, h.payload);
+    }
+    header_len(h.code, h.payload) < size
 }

@@ -2,10 +2,10 @@
 ghost use mathlib.Core.Path.{_≡_};
 ghost use mathlib.Core.List.{_++_};
 ghost use Prim.Native.Nat.{_+_, _*_, _≤_, _<_};
-ghost use lib.Dec.{ltb};
 ghost use lib.ListN.{length, drop};
 ghost use Rattle.format.specs.Limits.{max-inline};
 ghost use Rattle.format.specs.Header.{shift, digits, header};
+use crate::header::is_inline;
 use crate::header::width;
 use format::Header;
 
@@ -20,16 +20,6 @@ pub fn put_number(out: &mut [u8], k: usize, n: u64) -> usize
         i += 1;
     }
     i
-}
-
-// Does the payload stand in the lead byte?
-fn is_inline(code: u8, p: u64) -> bool
-    ensures { λ r. ⌜ r ≡ ltb (p + shift code) (max-inline + 1) ⌝ }
-{
-    if code == 0 {
-        return p <= Header::MAX_INLINE_BYTES;
-    }
-    p <= Header::MAX_INLINE
 }
 
 // The lead byte that has the payload in it.

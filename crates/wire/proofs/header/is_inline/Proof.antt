@@ -5,8 +5,8 @@ use borrow.Author.Tests.{leb-true, leb-false}
 use Rattle.format.specs.Header.{shift}
 use Rattle.format.proofs.Headers.{shift-zero, shift-other}
 use Rattle.wire.proofs.OutputLaws.{is-ltb}
-use Rattle.wire.proofs.output.is_inline.Statement.{statement}
-use Rattle.wire.proofs.output.is_inline.Tie as tie
+use Rattle.wire.proofs.header.is_inline.Statement.{statement}
+use Rattle.wire.proofs.header.is_inline.Tie as tie
 
 returns : tie.Need-returns
 returns c = is-ltb (c .before .args .p + shift (c .before .args .code)) _ _ (λ e. omega (arith, leb-true, shift-zero _ (c .if1 .taken))) (λ e. omega (arith, leb-false, shift-zero _ (c .if1 .taken)))
