@@ -55,10 +55,9 @@ pub case : {strict : Bool} {s es : List ℕ} {at names keyed : ℕ} {h : Header}
 case {h = h} so e st = record { short = subst (λ (b : Bool). b && (isLong h || isNegativeAlias h) ≡ false) (sym so) e; stands = st; size = refl }
 
 -- What is no other code is 0.
-pub is-zero : (n : ℕ) → leb 1 n && leb n 2 ≡ false → (n < 3) ⊎ (7 ≤ n) → n ≢ 7 → n < 8 → n ≡ 0
-is-zero zero a b c d = refl
-is-zero (suc n) a b c d =
-    ⊎-elim (λ (l : suc n < 3). clash (and-yes (leb-yes {a = 1} {b = suc n} (omega arith)) (leb-yes {a = suc n} {b = 2} (omega arith))) a) (λ (l : 7 ≤ suc n). absurd (c (omega arith))) b
+pub is-zero : (n : ℕ) → leb 1 n && leb n 2 ≡ false → n < 3 → n ≡ 0
+is-zero zero a l = refl
+is-zero (suc n) a l = clash (and-yes (leb-yes {a = 1} {b = suc n} (omega arith)) (leb-yes {a = suc n} {b = 2} (omega arith))) a
 
 pub judged-item : (s es : List ℕ) (names : ℕ) (o : Options) (a : State) {h : Header} (bs : List ℕ) (r : Out) → some h ≡ headerOf bs → Judged o s es names a (headed o a (some h) bs) r
     → Judged o s es names a (item o a bs) r

@@ -276,19 +276,24 @@ fn judge(
     if is_integer(code) {
         return Out::Value(next);
     }
-    match code {
-        3 => container(h, next, depth),
-        4 => content(s, h, next),
-        5 | 6 => name(s, strict, h, next, names, keyed, entries, links),
-        7 => reference(h, next, names, keyed, entries),
-        _ => {
-            let sz = h.sz;
-            if sz < 5 {
-                return Out::Value(next);
-            }
-            content(s, h, next)
-        }
+    // most items first
+    if code == 7 {
+        return reference(h, next, names, keyed, entries);
     }
+    if 5 <= code {
+        return name(s, strict, h, next, names, keyed, entries, links);
+    }
+    if code == 4 {
+        return content(s, h, next);
+    }
+    if code == 3 {
+        return container(h, next, depth);
+    }
+    let sz = h.sz;
+    if sz < 5 {
+        return Out::Value(next);
+    }
+    content(s, h, next)
 }
 
 // One item at an offset, by all rules but the last, the count of rows.

@@ -120,7 +120,8 @@ fn reaches(bound: u64, p: u64) -> usize
 pub fn width(p: u64) -> usize
     ensures { λ r. ⌜ r ≡ width p ⌝ }
 {
-    1 + reaches(256, p)
+    1
+        + reaches(256, p)
         + reaches(65536, p)
         + reaches(16777216, p)
         + reaches(4294967296, p)

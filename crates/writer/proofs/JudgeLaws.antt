@@ -123,18 +123,21 @@ module _ {text es links st plan : List ℕ} {xs : List Row} {s : State} (a : Aft
   unfolding withItem
   take-next t rules e0 er ee small stands measured =
       record {
-        taken = λ _. (record {
-          progress = withItem (a .progress) x;
-          run = λ rest. ap (judge text begin) (append-assoc xs (r ∷ []) rest) ∙ a .run (r ∷ rest) ∙ judged-good text (a .progress) r rules rest;
-          fine = all-append _ xs (r ∷ []) (a .fine) (passed text (a .progress) r rules, tt);
-          items = ap (λ (l : List Item). l ++ (x ∷ [])) (a .items) ∙ sym (map-append (itemAt text) xs (r ∷ []));
-          names = ap (noted x) (a .names) ∙ sym (names-more (a .progress .items) x);
-          row = sym (add-one (a .progress .row)) ∙ omega (arith, a .row);
-          rows = omega (arith, length-append xs (r ∷ []), a .rows);
-          small = omega (arith, a .small);
-          stands = stands;
-          measured = measured;
-        }, (er, ee));
+        taken = λ _. (
+          record {
+            progress = withItem (a .progress) x;
+            run = λ rest. ap (judge text begin) (append-assoc xs (r ∷ []) rest) ∙ a .run (r ∷ rest) ∙ judged-good text (a .progress) r rules rest;
+            fine = all-append _ xs (r ∷ []) (a .fine) (passed text (a .progress) r rules, tt);
+            items = ap (λ (l : List Item). l ++ (x ∷ [])) (a .items) ∙ sym (map-append (itemAt text) xs (r ∷ []));
+            names = ap (noted x) (a .names) ∙ sym (names-more (a .progress .items) x);
+            row = sym (add-one (a .progress .row)) ∙ omega (arith, a .row);
+            rows = omega (arith, length-append xs (r ∷ []), a .rows);
+            small = omega (arith, a .small);
+            stands = stands;
+            measured = measured;
+          },
+          (er, ee),
+        );
         refused = λ nz. absurd (nz e0);
       }
     where

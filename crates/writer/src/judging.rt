@@ -38,7 +38,15 @@ pub fn judge(rows: &[Row], text: &[u8], plan: &mut [u16; Plan::SIZE], n: usize) 
     let mut stack = [0u64; Bundle::MAX_DEPTH];
     let mut s = begin(n);
     while s.row < s.end {
-        s = step(text, &mut entries, &mut links, &mut stack, plan, s, rows[s.row]);
+        s = step(
+            text,
+            &mut entries,
+            &mut links,
+            &mut stack,
+            plan,
+            s,
+            rows[s.row],
+        );
     }
     s
 }

@@ -40,8 +40,11 @@ pub struct Plan;
 impl Plan {
     // in place of a reference: a name in full
     pub const FULL: u16 = 256;
+
     pub const GUESSES: usize = 1024;
+
     pub const MODULUS: usize = 509;
+
     pub const SIZE: usize = 1533;
 }
 
@@ -129,7 +132,14 @@ fn fresh(
     let at = s.row;
     let start = row.start;
     let number = row.number;
-    enter(text, text, entries, links, names, start as u64 * 562949953421312 + key);
+    enter(
+        text,
+        text,
+        entries,
+        links,
+        names,
+        start as u64 * 562949953421312 + key,
+    );
     plan[Plan::GUESSES + start % Plan::MODULUS] = names as u16;
     plan[at] = Plan::FULL;
     let n = header_len(row.kind - 5, number) + number as usize;

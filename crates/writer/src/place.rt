@@ -24,7 +24,10 @@ fn close(stack: &[u64; Bundle::MAX_DEPTH], depth: usize, left: u64) -> Level
         d -= 1;
         l = stack[d];
     }
-    Level { depth: d, left: l - 1 }
+    Level {
+        depth: d,
+        left: l - 1,
+    }
 }
 
 // After a value of n bytes.

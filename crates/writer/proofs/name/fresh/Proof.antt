@@ -22,12 +22,12 @@ returns c = λ xs a u.
     refuse-next a r 8 (c .refuse .ensures) (λ z. omega arith) error-8 (fresh-full a r (w .name) (w .fine) (w .alone) (among a r w (p .0) (p .5)) u (c .before .if1 .taken))
 
 mul-enter : tie.Need-mul-enter
-mul-enter c = 
+mul-enter c =
     let p = c .before .before .before .before .pre in
     omega (arith, name-inside (c .before .before .before .before .args .text .now) (c .before .before .before .before .args .row) (p .1 .name) (p .1 .fine), p .0 .short)
 
 add-enter : tie.Need-add-enter
-add-enter c = 
+add-enter c =
     let p = c .before .before .before .before .pre in
     let r = c .before .before .before .before .args .row in
     let text = c .before .before .before .before .args .text .now in
@@ -35,7 +35,7 @@ add-enter c =
     omega (arith, i, p .0 .short, p .4, key-lt (r .kind) (contentOf text r) (kind-most text r (p .1 .fine)) (omega (arith, i, p .0 .short)))
 
 enter-requires : tie.Need-enter-requires
-enter-requires c κs = 
+enter-requires c κs =
     let p = c .before .before .before .before .pre in
     let r = c .before .before .before .before .args .row in
     let text = c .before .before .before .before .args .text .now in
@@ -66,7 +66,7 @@ header-len-requires : tie.Need-header-len-requires
 header-len-requires c κs = search needs
 
 add-n : tie.Need-add-n
-add-n c = 
+add-n c =
     let p = c .before .before .before .before .before .before .before .pre in
     let r = c .before .before .before .before .before .before .before .args .row in
     let text = c .before .before .before .before .before .before .before .args .text .now in
@@ -76,7 +76,7 @@ add-named : tie.Need-add-named
 add-named c = search needs
 
 named-requires : tie.Need-named-requires
-named-requires c κs = 
+named-requires c κs =
     let p = c .before .before .before .before .before .before .before .pre in
     let r = c .before .before .before .before .before .before .before .args .row in
     let text = c .before .before .before .before .before .before .before .args .text .now in

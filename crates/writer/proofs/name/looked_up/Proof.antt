@@ -16,7 +16,7 @@ use Rattle.writer.proofs.name.looked_up.Statement.{statement}
 use Rattle.writer.proofs.name.looked_up.Tie as tie
 
 content-requires : tie.Need-content-requires
-content-requires c κs = 
+content-requires c κs =
     let p = c .before .pre in
     (p .0 .short, p .1 .fine, has-content (c .before .args .text .now) (c .before .args .row) (p .1 .name) (p .1 .fine))
 
@@ -35,14 +35,14 @@ returns c = λ xs a.
     (name-invalid a r (w .name) (w .fine) (w .alone) (ap not (ap utf8 (sym (c .before .before .before .content .ensures)) ∙ sym (c .before .before .is-utf8 .ensures)) ∙ c .before .if1 .taken))
 
 key-of-requires : tie.Need-key-of-requires
-key-of-requires c κs = 
+key-of-requires c κs =
     let p = c .before .before .before .before .pre in
     let r = c .before .before .before .before .args .row in
     let text = c .before .before .before .before .args .text .now in
     (p .1 .name, kind-most text r (p .1 .fine), omega (arith, ap length (c .before .before .content .ensures), name-inside text r (p .1 .name) (p .1 .fine), p .0 .short))
 
 find-requires : tie.Need-find-requires
-find-requires c κs = 
+find-requires c κs =
     let p = c .before .before .before .before .before .before .before .pre in
     let r = c .before .before .before .before .before .before .before .args .row in
     let text = c .before .before .before .before .before .before .before .args .text .now in
@@ -52,7 +52,7 @@ enum-known-i : tie.Need-enum-known-i
 enum-known-i c = search needs
 
 cast-known : tie.Need-cast-known
-cast-known c = 
+cast-known c =
     let p = c .before .before .before .before .before .before .before .before .before .before .before .before .pre in
     omega (arith, index-small _ (p .2) (found-some _ (rw (c .before .before .i .given .1) at (c .before .before .before .before .find .ensures))))
 
@@ -63,13 +63,18 @@ enum-told : tie.Need-enum-told
 enum-told c = search needs
 
 fresh-requires : tie.Need-fresh-requires
-fresh-requires c κs = 
+fresh-requires c κs =
     let p = c .before .before .before .before .before .before .before .before .before .before .before .before .before .pre in
     let r = c .before .before .before .before .before .before .before .before .before .before .before .before .before .args .row in
     let text = c .before .before .before .before .before .before .before .before .before .before .before .before .before .args .text .now in
-    let part = c .before .before .before .before .before .before .before .before .before .before .before .content .ensures in
-    (p .0, p .1, p .2, p .3, c .before .before .before .before .before .before .before .before .key-of .ensures .0 ∙ ap (keyOf (r .kind)) part,
-    looked-up text r (p .1 .name) (p .1 .fine) _ part (found-nothing _ (rw (c .before .before .before .enum-told .given .1) at (c .before .before .before .before .before .find .ensures))))
+    let part = c .before .before .before .before .before .before .before .before .before .before .before .content .ensures in (
+      p .0,
+      p .1,
+      p .2,
+      p .3,
+      c .before .before .before .before .before .before .before .before .key-of .ensures .0 ∙ ap (keyOf (r .kind)) part,
+      looked-up text r (p .1 .name) (p .1 .fine) _ part (found-nothing _ (rw (c .before .before .before .enum-told .given .1) at (c .before .before .before .before .before .find .ensures))),
+    )
 
 returns-2 : tie.Need-returns-2
 returns-2 c = λ xs a.

@@ -46,7 +46,7 @@ element-copy-out-guess : tie.Need-element-copy-out-guess
 element-copy-out-guess c = search needs
 
 is-entry-requires : tie.Need-is-entry-requires
-is-entry-requires c κs = 
+is-entry-requires c κs =
     let p = c .before .before .before .before .before .before .before .pre in
     let r = c .before .before .before .before .before .before .before .args .row in
     let text = c .before .before .before .before .before .before .before .args .text .now in
@@ -69,7 +69,7 @@ returns-3 c = λ xs a.
     (guessed text r (p .1) fine (p .2) g) (c .known .ensures .0) (c .known .ensures .1)
 
 looked-up-requires : tie.Need-looked-up-requires
-looked-up-requires c κs = 
+looked-up-requires c κs =
     let p = c .before .before .before .before .before .before .before .before .before .before .before .before .pre in
     let r = c .before .before .before .before .before .before .before .before .before .before .before .before .args .row in
     let text = c .before .before .before .before .before .before .before .before .before .before .before .before .args .text .now in
