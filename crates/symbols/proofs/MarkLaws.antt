@@ -1,7 +1,7 @@
 -- Marks: a turn of the loop over a name's bytes, the bytes after the last turn, and that a mark has 32 bits. Assumes nothing.
 use mathlib.Core.Path.{_≡_, ap, sym, _∙_}
 use mathlib.Core.Bool.{Bool, true, false}
-use mathlib.Core.List.{List}
+use mathlib.Core.List.{List, [], _∷_}
 use Prim.Native.Nat.{ℕ, zero, suc, _+_, _-_, _/_, _≤_, _<_}
 use native.Mathlib.Omega.{arith}
 use lib.ListN.{length, take, drop, length-drop}
@@ -9,7 +9,7 @@ use lib.Seq.{take-length, drop-drop}
 use Rattle.format.specs.Choice.{pick}
 use Rattle.format.specs.Header.{bigEndian}
 use Rattle.format.proofs.Tests.{pick-yes, pick-no, leb-yes, leb-no}
-use Rattle.symbols.specs.Mark.{mixed, wordAt, markEnd, markFrom, markOf}
+use Rattle.symbols.specs.Mark.{mixed, wordAt, fewOf, markEnd, markFrom, markOf}
 
 -- The mark of the bytes from i on, begun with h.
 abbrev pub markAt : List ℕ → ℕ → ℕ → ℕ
@@ -53,9 +53,13 @@ pub end-four : (h : ℕ) (s : List ℕ) → length s < 8 → 4 ≤ length s → 
 unfolding markEnd
 end-four h s u l = pick-no _ _ (leb-no u) ∙ pick-yes _ _ (leb-yes l)
 
-pub end-few : (h : ℕ) (s : List ℕ) → length s < 4 → markEnd h s ≡ mixed h (bigEndian 0 (take (length s) (drop 0 s))) 0
+pub end-few : (h : ℕ) (s : List ℕ) → length s < 4 → markEnd h s ≡ mixed h (fewOf s) 0
 unfolding markEnd
-end-few h s l = pick-no _ _ (leb-no {a = 8} {b = length s} (omega arith)) ∙ pick-no _ _ (leb-no l) ∙ ap (λ t. mixed h (bigEndian 0 t) 0) (sym (take-length s))
+end-few h s l = pick-no _ _ (leb-no {a = 8} {b = length s} (omega arith)) ∙ pick-no _ _ (leb-no l)
+
+pub end-none : (h : ℕ) (s : List ℕ) → length s ≡ 0 → markEnd h s ≡ mixed h 0 0
+end-none h [] l = end-few h [] (omega arith)
+end-none h (b ∷ bs) l = absurd (omega arith)
 
 -- ---- bounds
 

@@ -2,7 +2,7 @@
 use Prim.Native.Nat.{ℕ, zero, suc, _+_, _-_, _*_, _/_, _%_}
 use mathlib.Core.List.{List}
 use lib.Dec.{leb}
-use lib.ListN.{length, take, drop}
+use lib.ListN.{length, take, drop, getD}
 use Rattle.format.specs.Choice.{pick}
 use Rattle.format.specs.Header.{bigEndian}
 
@@ -14,11 +14,15 @@ mixed h v w = ((h + v % 4294967296) % 4294967296 * 2654435761 + w % 4294967296 *
 abbrev pub wordAt : List ℕ → ℕ → ℕ
 wordAt s i = bigEndian 0 (take 4 (drop i s))
 
+-- At most three bytes: the first, the middle and the last.
+abbrev pub fewOf : List ℕ → ℕ
+fewOf s = (getD s 0 0 * 256 + getD s (length s / 2) 0) * 256 + getD s (length s - 1) 0
+
 -- At most 16 bytes, by words from both ends that meet or overlap.
 unfoldable pub markEnd : ℕ → List ℕ → ℕ
 markEnd h s =
     pick (leb 8 (length s)) (mixed (mixed h (wordAt s 0) (wordAt s 4)) (wordAt s (length s - 8)) (wordAt s (length s - 4)))
-    (pick (leb 4 (length s)) (mixed h (wordAt s 0) (wordAt s (length s - 4))) (mixed h (bigEndian 0 s) 0))
+    (pick (leb 4 (length s)) (mixed h (wordAt s 0) (wordAt s (length s - 4))) (mixed h (fewOf s) 0))
 
 -- n times eight bytes, and then the rest.
 unfoldable pub markFrom : ℕ → ℕ → List ℕ → ℕ

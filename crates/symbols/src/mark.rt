@@ -25,7 +25,11 @@ fn end(h: u64, s: &[u8]) -> u64
     if 4 <= n {
         return mix(h, number(s, 0, 4), number(s, n - 4, 4));
     }
-    mix(h, number(s, 0, n), 0)
+    if n == 0 {
+        return mix(h, 0, 0);
+    }
+    let v = (s[0] as u64 * 256 + s[n / 2] as u64) * 256 + s[n - 1] as u64;
+    mix(h, v, 0)
 }
 
 pub fn mark(s: &[u8]) -> u64

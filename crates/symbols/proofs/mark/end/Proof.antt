@@ -1,7 +1,9 @@
 -- `symbols::mark::end` meets its contract: each way is a case of the definition. Assumes nothing.
 use mathlib.Core.Path.{sym, _∙_}
+use Prim.Native.Nat.{_-_, _/_}
 use native.Mathlib.Omega.{arith}
-use Rattle.symbols.proofs.MarkLaws.{end-eight, end-four, end-few}
+use lib.ListN.{length}
+use Rattle.symbols.proofs.MarkLaws.{end-eight, end-four, end-few, end-none}
 use borrow.Author.Needs.{needs}
 use Rattle.symbols.proofs.mark.end.Statement.{statement}
 use Rattle.symbols.proofs.mark.end.Tie as tie
@@ -46,16 +48,75 @@ returns-2 c =
     let a = c .before .before .before .before .before .before .args in
     (sym (end-four (a .h) (a .s .now) (omega arith) (omega arith) ∙ rw (c .mix3 .ensures .0, c .before .number6 .ensures, c .before .before .number5 .ensures)), c .mix3 .ensures .1)
 
-number-requires-7 : tie.Need-number-requires-7
-number-requires-7 c κs = search needs
-
 mix-requires-4 : tie.Need-mix-requires-4
 mix-requires-4 c κs = search needs
 
 returns-3 : tie.Need-returns-3
 returns-3 c =
     let a = c .before .before .before .before .before .args in
-    (sym (end-few (a .h) (a .s .now) (omega arith) ∙ rw (c .mix4 .ensures .0, c .before .number7 .ensures)), c .mix4 .ensures .1)
+    (sym (end-none (a .h) (a .s .now) (omega (arith, c .before .if3 .taken)) ∙ rw (c .mix4 .ensures .0)), c .mix4 .ensures .1)
+
+shared-slice-read-v : tie.Need-shared-slice-read-v
+shared-slice-read-v c = search needs
+
+cast-v : tie.Need-cast-v
+cast-v c =
+    let s = c .before .before .before .before .before .args .s .now in
+    let b = c .before .before .before .before .shared-slice-known .given in
+    omega (arith, b 0, b (length s / 2), b (length s - 1))
+
+mul-v : tie.Need-mul-v
+mul-v c =
+    let s = c .before .before .before .before .before .args .s .now in
+    let b = c .before .before .before .before .shared-slice-known .given in
+    omega (arith, b 0, b (length s / 2), b (length s - 1))
+
+shared-slice-read-v-2 : tie.Need-shared-slice-read-v-2
+shared-slice-read-v-2 c = search needs
+
+cast-v-2 : tie.Need-cast-v-2
+cast-v-2 c =
+    let s = c .before .before .before .before .before .before .args .s .now in
+    let b = c .before .before .before .before .before .shared-slice-known .given in
+    omega (arith, b 0, b (length s / 2), b (length s - 1))
+
+add-v : tie.Need-add-v
+add-v c =
+    let s = c .before .before .before .before .before .before .args .s .now in
+    let b = c .before .before .before .before .before .shared-slice-known .given in
+    omega (arith, b 0, b (length s / 2), b (length s - 1))
+
+mul-v-2 : tie.Need-mul-v-2
+mul-v-2 c =
+    let s = c .before .before .before .before .before .before .args .s .now in
+    let b = c .before .before .before .before .before .shared-slice-known .given in
+    omega (arith, b 0, b (length s / 2), b (length s - 1))
+
+sub-v : tie.Need-sub-v
+sub-v c = search needs
+
+shared-slice-read-v-3 : tie.Need-shared-slice-read-v-3
+shared-slice-read-v-3 c = search needs
+
+cast-v-3 : tie.Need-cast-v-3
+cast-v-3 c =
+    let s = c .before .before .before .before .before .before .before .args .s .now in
+    let b = c .before .before .before .before .before .before .shared-slice-known .given in
+    omega (arith, b 0, b (length s / 2), b (length s - 1))
+
+add-v-2 : tie.Need-add-v-2
+add-v-2 c =
+    let s = c .before .before .before .before .before .before .before .args .s .now in
+    let b = c .before .before .before .before .before .before .shared-slice-known .given in
+    omega (arith, b 0, b (length s / 2), b (length s - 1))
+
+mix-requires-5 : tie.Need-mix-requires-5
+mix-requires-5 c κs = search needs
+
+returns-4 : tie.Need-returns-4
+returns-4 c =
+    let a = c .before .before .before .before .before .before .before .before .args in
+    (sym (end-few (a .h) (a .s .now) (omega arith) ∙ rw (c .mix5 .ensures .0)), c .mix5 .ensures .1)
 
 pub end-spec : {M : Type 1} → statement M
 end-spec =
@@ -73,6 +134,18 @@ end-spec =
     number-requires-6
     mix-requires-3
     returns-2
-    number-requires-7
     mix-requires-4
-    returns-3)
+    returns-3
+    shared-slice-read-v
+    cast-v
+    mul-v
+    shared-slice-read-v-2
+    cast-v-2
+    add-v
+    mul-v-2
+    sub-v
+    shared-slice-read-v-3
+    cast-v-3
+    add-v-2
+    mix-requires-5
+    returns-4)
