@@ -1,7 +1,9 @@
-//! Inputs for reading: the reference's generators, and a few families that they lack.
+//! Inputs: the reference's generators, and a few families that they lack.
 
 use reference::generate::model::{self, fewest, header};
+use reference::generate::tables::{self, Table};
 use reference::generate::{bundles, pairs, Random};
+use reference::{Mode, Row, MAX_ROWS};
 
 /// A mix of all families: whole, wasteful, damaged, at the limits, noise, texts, and joined.
 pub fn bundle(random: &mut Random) -> Vec<u8> {
@@ -30,4 +32,23 @@ fn text(random: &mut Random) -> Vec<u8> {
     let code = random.pick(&[4, 5, 6]);
     let length = content.len() as u64;
     [header(code, length, fewest(code, length)), content, vec![0]].concat()
+}
+
+/// A mix of all families of tables for writing.
+pub fn table(random: &mut Random) -> Table {
+    match random.below(8) {
+        0 => rows_read(random),
+        _ => tables::table(random),
+    }
+}
+
+/// The rows of a bundle, over the bundle itself.
+fn rows_read(random: &mut Random) -> Table {
+    let text = bundles::bundle(random);
+    let mut rows = vec![Row::default(); MAX_ROWS];
+    let Ok(counts) = reference::read(&text, Mode::Lenient, &mut rows) else {
+        return tables::good(random);
+    };
+    rows.truncate(counts.rows);
+    tables::fitted(random, rows, text)
 }

@@ -1,11 +1,16 @@
 //! The proved library's C functions as safe Rust functions, and inputs to compare them on.
 
+pub mod cases;
 pub mod inputs;
 mod read;
+mod row;
 mod tally;
+mod write;
 
-pub use read::{read, Row};
+pub use read::read;
+pub use row::Row;
 pub use tally::Tally;
+pub use write::write;
 
 use reference::{Counts, Error, Mode};
 
@@ -23,7 +28,7 @@ pub struct Answer {
     pub fields: u64,
 }
 
-/// The one answer for what the reference gives; all that it does not speak of is 0.
+/// The one answer for what the reference reads; all that it does not speak of is 0.
 impl From<Result<Counts, Error>> for Answer {
     fn from(result: Result<Counts, Error>) -> Answer {
         match result {
@@ -33,11 +38,30 @@ impl From<Result<Counts, Error>> for Answer {
                 fields: counts.fields as u64,
                 ..Answer::default()
             },
-            Err(error) => Answer {
-                error: u64::from(error.number),
-                place: error.place as u64,
+            Err(error) => Answer::from(error),
+        }
+    }
+}
+
+/// The one answer for what the reference writes, which counts bytes.
+impl From<Result<usize, Error>> for Answer {
+    fn from(result: Result<usize, Error>) -> Answer {
+        match result {
+            Ok(bytes) => Answer {
+                count: bytes as u64,
                 ..Answer::default()
             },
+            Err(error) => Answer::from(error),
+        }
+    }
+}
+
+impl From<Error> for Answer {
+    fn from(error: Error) -> Answer {
+        Answer {
+            error: u64::from(error.number),
+            place: error.place as u64,
+            ..Answer::default()
         }
     }
 }

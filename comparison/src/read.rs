@@ -1,26 +1,7 @@
 //! `nachricht_read` as a safe Rust function.
 
-use crate::Answer;
+use crate::{Answer, Row};
 use reference::Mode;
-
-/// A row as the C interface has it.
-#[repr(C)]
-#[derive(Clone, Copy, PartialEq, Eq, Debug)]
-pub struct Row {
-    pub kind: u8,
-    pub number: u64,
-    pub start: usize,
-}
-
-impl From<reference::Row> for Row {
-    fn from(row: reference::Row) -> Row {
-        Row {
-            kind: row.kind,
-            number: row.number,
-            start: row.start,
-        }
-    }
-}
 
 extern "C" {
     fn nachricht_read(

@@ -26,6 +26,10 @@ pub fn table(random: &mut Random) -> Table {
         long_text,
         long_result,
         clash,
+        damaged,
+        alike,
+        windows,
+        far,
     ];
     match random.below(16) {
         0..=4 => good(random),
@@ -96,11 +100,18 @@ fn bad_row(random: &mut Random, text: usize) -> Row {
         (text / 2, (text - text / 2) as u64 + 1),
         (usize::MAX, 0),
         (usize::MAX, 1),
+        (usize::MAX, 2),
         (usize::MAX - 4, 5),
         (0, u64::MAX),
         (1, u64::MAX),
+        (2, u64::MAX),
         (text + 1, u64::MAX - text as u64),
         (usize::MAX, u64::MAX),
+        // These would pass if they were cut to 16 or 32 bits.
+        (0, 1 << 16),
+        (0, 1 << 32),
+        (1 << 16, 0),
+        (1 << 32, 0),
     ];
     let (kind, number, start) = match random.below(8) {
         0 => (random.pick(&[12, 13, 127, 128, 255]), 0, 0),
@@ -206,6 +217,9 @@ fn many_rows(random: &mut Random) -> Table {
         let length = near(random, MAX_BYTES);
         table.text.resize(length, 0xFF);
     }
+    if random.one_in(4) {
+        spoil(random, &mut table);
+    }
     table
 }
 
@@ -214,7 +228,18 @@ fn long_text(random: &mut Random) -> Table {
     let mut table = good(random);
     let length = near(random, MAX_BYTES);
     table.text.resize(length, 0xFF);
+    if random.one_in(4) {
+        spoil(random, &mut table);
+    }
     table
+}
+
+/// Puts a bad row in the place of another one.
+fn spoil(random: &mut Random, table: &mut Table) {
+    if !table.rows.is_empty() {
+        let place = random.below(table.rows.len());
+        table.rows[place] = bad_row(random, table.text.len());
+    }
 }
 
 /// Strings from one text whose result is as long as allowed and one more.
@@ -256,4 +281,105 @@ fn clash(random: &mut Random) -> Table {
         });
     }
     table
+}
+
+/// A good table with a few rows changed, removed, swapped or doubled.
+fn damaged(random: &mut Random) -> Table {
+    let mut table = good(random);
+    for _ in 0..1 + random.below(3) {
+        if !table.rows.is_empty() {
+            damage(random, &mut table.rows);
+        }
+    }
+    table
+}
+
+/// Changes the rows, of which there are some, in one place.
+fn damage(random: &mut Random, rows: &mut Vec<Row>) {
+    let (place, other) = (random.below(rows.len()), random.below(rows.len()));
+    let row = &mut rows[place];
+    match random.below(6) {
+        0 => row.kind = random.below(13) as u8,
+        1 => row.number = row.number.wrapping_add(random.pick(&[1, u64::MAX])),
+        2 => row.start = row.start.wrapping_add(random.pick(&[1, usize::MAX])),
+        3 => drop(rows.remove(place)),
+        4 => rows.swap(place, other),
+        _ => rows.insert(place, rows[other]),
+    }
+}
+
+/// Names that differ in one byte or in their kind only, up to as many as allowed, and used again.
+fn alike(random: &mut Random) -> Table {
+    let length = 1 + random.below(40);
+    let changed = random.below(length);
+    let name = |kind, byte| {
+        let mut content = vec![b'x'; length];
+        content[changed] = byte as u8;
+        Meaning::with_content(kind, content)
+    };
+    // A key and a symbol for each byte.
+    let bytes = random.pick(&[1, 12, 13, 60, MAX_ENTRIES / 2]);
+    let mut items = Vec::new();
+    for byte in 0..bytes {
+        items.extend([name(11, byte), name(10, byte)]);
+    }
+    for _ in 0..random.below(3 * bytes) {
+        let (key, symbol) = (random.below(bytes), random.below(bytes));
+        items.extend([name(11, key), name(10, symbol)]);
+    }
+    of_items(random, &items)
+}
+
+/// Content anywhere in a short text: it overlaps, begins alike, or ends inside a character.
+fn windows(random: &mut Random) -> Table {
+    let length = 1 + random.below(20);
+    let text = match random.below(3) {
+        0 => model::text(random, length),
+        _ => (0..length).map(|_| random.pick(b"ab")).collect(),
+    };
+    let mut rows = Vec::new();
+    for _ in 0..random.below(60) {
+        if random.one_in(2) {
+            rows.push(window(random, 11, length));
+        }
+        let kind = random.pick(&[5, 9, 10, 10]);
+        rows.push(window(random, kind, length));
+    }
+    fitted(random, rows, text)
+}
+
+/// A row with content anywhere in a text of this length.
+fn window(random: &mut Random, kind: u8, text: usize) -> Row {
+    let start = random.below(text + 1);
+    let number = random.below(text - start + 1) as u64;
+    Row {
+        kind,
+        number,
+        start,
+    }
+}
+
+/// Content that is long or stands at the end of a text about as long as allowed.
+fn far(random: &mut Random) -> Table {
+    let length = near(random, MAX_BYTES);
+    let mut rows = Vec::new();
+    for _ in 0..1 + random.below(3) {
+        let number = random.pick(&[0, 1, 300, 8_000, MAX_BYTES - 100, MAX_BYTES - 4]);
+        rows.push(Row {
+            kind: random.pick(&[5, 9, 10, 10, 10]),
+            number: number as u64,
+            start: random.pick(&[0, 1, length - number]),
+        });
+    }
+    fitted(random, rows, vec![b'x'; length])
+}
+
+/// A table of rows that all point into the text, with a capacity for them.
+pub fn fitted(random: &mut Random, rows: Vec<Row>, text: Vec<u8>) -> Table {
+    let result = canonical(&model::meanings(&rows, &text)).len();
+    Table {
+        rows,
+        text,
+        capacity: capacity(random, result),
+    }
 }
