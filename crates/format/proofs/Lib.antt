@@ -22,3 +22,9 @@ pub mod Writes
 pub mod Rewriting
 pub mod Envelopes
 pub mod Laws
+-- Steps for proofs by hand, for the crates above.
+pub mod WalkRest
+pub mod WalkArray
+pub mod WalkBorrow
+pub mod WalkSlice
+pub mod WalkCall

@@ -15,7 +15,6 @@ use Rattle.format.specs.Header.{headerOf}
 use Rattle.format.specs.Reading.{Form, fixed, content, formOf}
 use Rattle.format.proofs.Tests.{order, equal, eqb-yes, eqb-no, leb-yes, leb-no, ltb-yes, ltb-no, and-yes, and-no-left, and-no-right, pick-yes, pick-no}
 use Rattle.format.proofs.Headers.{size-within}
-use Rattle.symbols.specs.Entry.{kindIn, lengthIn, startIn}
 use Rattle.reader.specs.declared.fill.Filled.{Filled}
 use Rattle.reader.specs.Filling.{rowOf, fixedRow, entryRow, packed, filledForm, tableForm, filledAt, tableAt, filledNext, tableNext, blank}
 use Rattle.reader.proofs.Flat.{form-reference}

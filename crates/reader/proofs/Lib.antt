@@ -10,7 +10,5 @@ pub mod Turns
 pub mod Tops
 pub mod FillLaws
 pub mod RowsLeft
-pub mod After
-pub mod LocalArray
 pub mod SecondPass
 pub mod WalkSteps

@@ -1,10 +1,10 @@
 -- One row judged: which rule refuses it, and what is known after it. Assumes nothing.
 use mathlib.Core.Path.{_≡_, refl, ap, sym, subst, _∙_}
 use mathlib.Core.Logic.{_≢_}
-use mathlib.Core.Bool.{Bool, true, false, not}
-use mathlib.Core.List.{List, [], _∷_, _++_, append-assoc}
-use mathlib.Core.Option.{Option, none, some}
-use Prim.Native.Nat.{ℕ, _+_, _*_, _^_, _≤_, _<_}
+use mathlib.Core.Bool.{true, false, not}
+use mathlib.Core.List.{List, _∷_, _++_, append-assoc}
+use mathlib.Core.Option.{none, some}
+use Prim.Native.Nat.{ℕ, _+_, _^_, _≤_, _<_}
 use native.Mathlib.Numerals.{add-one}
 use native.Mathlib.Omega.{arith}
 use lib.Dec.{eqb, ltb, leb}
@@ -12,13 +12,13 @@ use lib.ListN.{length, take, set, length-append, length-map}
 use lib.Seq.{length-take-le}
 use Rattle.format.specs.declared.row.Row.{Row}
 use Rattle.format.specs.Choice.{pick, _&&_, _||_}
-use Rattle.format.specs.Answer.{Failure, failure, Rule, rule, first, failed, fail, unless, then}
+use Rattle.format.specs.Answer.{failure, rule, first, fail, unless, then}
 use Rattle.format.specs.Utf8.{utf8}
 use Rattle.format.specs.Item.{Item, isText, isName, isKey, isContainer}
 use Rattle.format.specs.Canonical.{full}
-use Rattle.format.specs.Names.{noted, namesFrom}
-use Rattle.format.specs.Place.{Place, keyAfterKey, tooDeep, moved}
-use Rattle.format.specs.Rows.{itemAt, itemsAt}
+use Rattle.format.specs.Names.{noted}
+use Rattle.format.specs.Place.{keyAfterKey, tooDeep, moved}
+use Rattle.format.specs.Rows.{itemAt}
 use Rattle.format.specs.Writing.{isBad, Progress, begin, withItem, rowRules, judge}
 use Rattle.format.proofs.Tests.{cases, eqb-yes, eqb-no, leb-no, ltb-yes, ltb-no, and-no-left, and-no-right, pick-yes, pick-no, applied-none}
 use Rattle.format.proofs.Names.{noted-plain}

@@ -1,15 +1,15 @@
 -- A row by its kind: which rules it breaks, and what it measures. Assumes nothing.
 use mathlib.Core.Path.{_≡_, refl, ap, sym, _∙_}
 use mathlib.Core.Logic.{_≢_}
-use mathlib.Core.Bool.{Bool, true, false, not}
-use mathlib.Core.List.{List, [], _∷_, _++_}
+use mathlib.Core.Bool.{true, false, not}
+use mathlib.Core.List.{List, _∷_}
 use mathlib.Core.Option.{none, some}
 use Prim.Native.Nat.{ℕ, _+_, _-_, _≤_, _<_}
 use native.Mathlib.Omega.{arith}
-use lib.Dec.{eqb, ltb, leb}
+use lib.Dec.{eqb, ltb}
 use lib.ListN.{length, length-append}
 use Rattle.format.specs.declared.row.Row.{Row}
-use Rattle.format.specs.Choice.{pick, _&&_, _||_}
+use Rattle.format.specs.Choice.{_&&_, _||_}
 use Rattle.format.specs.Answer.{failure, first}
 use Rattle.format.specs.Header.{header}
 use Rattle.format.specs.Utf8.{utf8}
@@ -19,14 +19,13 @@ use Rattle.format.specs.Canonical.{full}
 use Rattle.format.specs.Place.{tooDeep}
 use Rattle.format.specs.Rows.{contentOf, itemAt}
 use Rattle.format.specs.Writing.{isBad, rowRules}
-use Rattle.format.proofs.Tests.{cases, equal, eqb-yes, eqb-no, leb-yes, leb-no, ltb-no, and-true, and-yes, and-no-left, and-no-right, pick-no}
+use Rattle.format.proofs.Tests.{equal, eqb-yes, eqb-no, leb-yes, leb-no, ltb-no, and-yes, and-no-left, and-no-right, pick-no}
 use Rattle.format.proofs.Names.{item-path, noted-known, noted-fresh}
 use Rattle.writer.specs.declared.state.State.{State}
-use Rattle.writer.specs.Rules.{badNumber}
 use Rattle.writer.specs.Judging.{After}
-use Rattle.writer.proofs.RowLaws.{content-text, content-kinds, bad-content, bad-plain, number-other, inside, content-length, header-most, length-sized}
+use Rattle.writer.proofs.RowLaws.{content-kinds, bad-content, bad-plain, number-other, inside, content-length, header-most, length-sized}
 use Rattle.writer.proofs.MeasureLaws.{known-text}
-use Rattle.writer.proofs.JudgeLaws.{rule-9, rule-5, rule-6, rule-3, rule-8, rule-none, names-count, keys-are, depth-is, no-keys, few-names}
+use Rattle.writer.proofs.JudgeLaws.{rule-5, rule-6, rule-3, rule-8, rule-none, names-count, keys-are, depth-is, no-keys, few-names}
 
 -- ---- with content
 

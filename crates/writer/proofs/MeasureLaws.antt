@@ -1,15 +1,14 @@
 -- Items measured: one more. Assumes nothing.
-use mathlib.Core.Path.{_≡_, refl, ap, sym, subst, _∙_}
+use mathlib.Core.Path.{_≡_, refl, ap, sym, _∙_}
 use mathlib.Core.Logic.{_⊎_, ⊎-elim}
-use mathlib.Core.Bool.{Bool, true, false}
-use mathlib.Core.List.{List, [], _∷_, _++_, map, append-nil}
+use mathlib.Core.Bool.{true, false}
+use mathlib.Core.List.{List, _∷_, _++_, map, append-nil}
 use mathlib.Core.Option.{Option, none, some}
-use Prim.Native.Nat.{ℕ, zero, suc, _+_, _-_, _≤_, _<_}
+use Prim.Native.Nat.{ℕ, _+_, _-_, _<_}
 use native.Mathlib.Numerals.{add-one}
 use native.Mathlib.Omega.{arith}
 use lib.ListN.{length, take, getD, set, getElem?, length-set, length-append}
 use lib.Seq.{getD-set-same, getD-set-other, take-append-le, take-append-seam, take-suc-set}
-use Rattle.format.specs.Choice.{pick}
 use Rattle.format.specs.Header.{header}
 use Rattle.format.specs.Item.{Item, isName}
 use Rattle.format.specs.Names.{sameName, index, noted, namesFrom}

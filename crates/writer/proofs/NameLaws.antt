@@ -1,20 +1,17 @@
 -- Names of rows: known by a guess or a search, or new. Assumes nothing.
 use mathlib.Core.Path.{_≡_, refl, ap, sym, _∙_}
 use mathlib.Core.Bool.{true, false}
-use mathlib.Core.List.{List, [], _∷_, _++_}
+use mathlib.Core.List.{List}
 use mathlib.Core.Option.{Option, none, some}
 use Prim.Native.Nat.{ℕ, _+_, _-_, _*_, _^_, _≤_, _<_}
 use native.Mathlib.Omega.{arith}
-use lib.Dec.{eqb, ltb}
 use lib.ListN.{length, take, drop, set, getD, length-set, length-map}
 use lib.Seq.{length-take-le, getD-set-same, getD-set-other}
 use Rattle.format.specs.declared.row.Row.{Row}
-use Rattle.format.specs.Choice.{_&&_}
 use Rattle.format.specs.Header.{header}
 use Rattle.format.specs.Utf8.{utf8}
 use Rattle.format.specs.Item.{Item, hasContent}
 use Rattle.format.specs.Names.{sameName, index, namesFrom}
-use Rattle.format.specs.Canonical.{full}
 use Rattle.format.specs.Rows.{contentOf, itemAt}
 use Rattle.format.specs.Writing.{isBad}
 use Rattle.format.proofs.Names.{item-path, same-name-refl, index-at}

@@ -2,20 +2,20 @@
 use mathlib.Core.Path.{_≡_, refl, ap, sym, _∙_}
 use mathlib.Core.Logic.{_≢_}
 use mathlib.Core.Bool.{Bool, true, false}
-use mathlib.Core.List.{List, [], _∷_, _++_}
+use mathlib.Core.List.{List, _∷_}
 use Prim.Native.Nat.{ℕ, _+_, _-_, _^_, _≤_, _<_}
 use native.Mathlib.Omega.{arith}
 use lib.Dec.{eqb, ltb, leb}
 use lib.ListN.{length, take, drop, length-drop, length-append}
 use lib.Seq.{length-take-le}
 use Rattle.format.specs.declared.row.Row.{Row}
-use Rattle.format.specs.Choice.{pick, _&&_, _||_}
+use Rattle.format.specs.Choice.{_&&_, _||_}
 use Rattle.format.specs.Header.{header, digits, following}
 use Rattle.format.specs.Item.{Item, hasContent}
 use Rattle.format.specs.Canonical.{full}
-use Rattle.format.specs.Rows.{contentOf, itemAt}
+use Rattle.format.specs.Rows.{contentOf}
 use Rattle.format.specs.Writing.{isBad}
-use Rattle.format.proofs.Tests.{cases, clash, order, eqb-yes, eqb-no, eqb-true, leb-yes, leb-no, leb-true, ltb-yes, ltb-no, ltb-false, or-false, and-no-right, pick-yes, pick-no}
+use Rattle.format.proofs.Tests.{cases, clash, order, eqb-yes, eqb-no, eqb-true, leb-yes, leb-true, ltb-yes, ltb-no, ltb-false, or-false, and-no-right, pick-yes}
 use Rattle.format.proofs.Numbers.{length-digits, width-holds}
 use Rattle.format.proofs.Headers.{length-header}
 use Rattle.format.proofs.Encoding.{full-other}

@@ -1,18 +1,17 @@
 -- The place among containers, kept as a depth, the fields left and a stack. Assumes nothing.
-use mathlib.Core.Path.{_≡_, refl, ap, sym, subst, _∙_}
-use mathlib.Core.Logic.{_≢_}
-use mathlib.Core.Bool.{Bool, true, false}
-use mathlib.Core.List.{List, [], _∷_}
+use mathlib.Core.Path.{_≡_, refl, ap, _∙_}
+use mathlib.Core.Bool.{true, false}
+use mathlib.Core.List.{List, _∷_}
 use Prim.Native.Nat.{ℕ, zero, suc, _+_, _-_, _≤_, _<_}
 use native.Mathlib.Numerals.{add-one}
 use native.Mathlib.Omega.{arith}
-use lib.Dec.{eqb, ltb}
+use lib.Dec.{ltb}
 use lib.ListN.{length, getD, set, length-set}
 use lib.Seq.{getD-set-same, getD-set-other}
 use Rattle.format.specs.Choice.{pick, _&&_}
 use Rattle.format.specs.Item.{Item, isKey, isContainer}
 use Rattle.format.specs.Place.{Place, ended, moved}
-use Rattle.format.proofs.Tests.{cases, order, eqb-yes, eqb-no, ltb-yes, ltb-no, pick-yes, pick-no, and-yes, and-no-left, and-no-right}
+use Rattle.format.proofs.Tests.{order, ltb-yes, ltb-no, pick-yes, pick-no}
 use Rattle.writer.specs.declared.place.Level.{Level}
 use Rattle.writer.specs.Stack.{openedOf, bottom, closed, Stands}
 

@@ -1,5 +1,4 @@
 -- `nachricht::failed` meets its contract. Assumes nothing.
-use Rattle.format.specs.Answer.{failure}
 use Rattle.nachricht.specs.Answers.{failedAnswer}
 use borrow.Author.Needs.{needs}
 use Rattle.nachricht.proofs.failed.Statement.{statement}

@@ -7,11 +7,6 @@ use Rattle.nachricht.specs.Answers.{countsAnswer}
 use borrow.Author.Needs.{needs}
 use Rattle.nachricht.proofs.nachricht_check.Statement.{statement}
 use Rattle.nachricht.proofs.nachricht_check.Tie as tie
-use Rattle.nachricht.proofs.nachricht_check.Reads as reads
-use Rattle.nachricht.proofs.nachricht_check.Lts as lts
-use Rattle.nachricht.proofs.answer_of.Reads as answer-of-reads
-use Rattle.nachricht.proofs.mode_of.Reads as mode-of-reads
-use Rattle.reader.proofs.check_in.Reads as check-in-reads
 
 -- src/lib.rt:62:39
 mode-of-requires : tie.Need-mode-of-requires

@@ -6,8 +6,6 @@ use Rattle.format.specs.Reading.{options, counts}
 use borrow.Author.Needs.{needs}
 use Rattle.reader.proofs.checking.check.Statement.{statement}
 use Rattle.reader.proofs.checking.check.Tie as tie
-use Rattle.format.proofs.error.Mode.default.Reads as default-reads
-use Rattle.reader.proofs.checking.check_in.Reads as check-in-reads
 
 default-requires : tie.Need-default-requires
 default-requires c κs = search needs

@@ -3,7 +3,6 @@ use mathlib.Core.Path.{refl}
 use borrow.Author.Needs.{needs}
 use Rattle.reader.proofs.checking.check_in.Statement.{statement}
 use Rattle.reader.proofs.checking.check_in.Tie as tie
-use Rattle.reader.proofs.checking.walk.Reads as walk-reads
 
 walk-requires : tie.Need-walk-requires
 walk-requires c κs = search needs

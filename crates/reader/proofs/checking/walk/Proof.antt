@@ -9,8 +9,6 @@ use Rattle.reader.proofs.Tops.{fair-start, stands-start, row-start, out
 use borrow.Author.Needs.{needs}
 use Rattle.reader.proofs.checking.walk.Statement.{statement}
 use Rattle.reader.proofs.checking.walk.Tie as tie
-use Rattle.format.proofs.error.Mode.is_strict.Reads as is-strict-reads
-use Rattle.reader.proofs.fields.fields.Reads as fields-reads
 
 returns : tie.Need-returns
 returns c = λ n m. too-long (options (c .before .before .args .mode) n) _ (c .if1 .taken)

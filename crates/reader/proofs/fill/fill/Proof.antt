@@ -8,7 +8,7 @@ use native.Mathlib.Nat.{lt-of-lt-of-le}
 use native.Mathlib.Numerals.{add-one-le, add-one-dec}
 use native.Mathlib.Omega.{arith}
 use mathlib.Core.WellFounded.{WellFounded, InvImage·wf}
-use mathlib.Core.List.{List, [], _∷_, _++_}
+use mathlib.Core.List.{List, _∷_, _++_}
 use lib.ListN.{length, set, length-set, drop as without}
 use lib.WfN.{Nat·lt-wfRel}
 use lib.Dec.{T as Holds, ltb, ltb→lt, nltb→le, lit<}
@@ -57,7 +57,7 @@ use Rattle.format.proofs.row.Row as T
 use Rattle.format.proofs.row.Row.Laws as T′
 use Rattle.reader.specs.declared.fill.Filled.{Filled}
 use Rattle.reader.specs.Filling.{blank, begin, filledNext, tableNext, rowsFrom}
-use Rattle.reader.proofs.After.{after}
+use Rattle.format.proofs.WalkRest.{after}
 use Rattle.reader.proofs.RowsLeft.{rowsLeft, left-first, left-on, left-off}
 use Rattle.reader.proofs.fill.Filled as S
 use Rattle.reader.proofs.fill.Filled.Laws as S′

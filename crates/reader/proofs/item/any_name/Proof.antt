@@ -5,7 +5,6 @@ use Rattle.reader.proofs.NameEntry.{plain-full, plain-entered}
 use borrow.Author.Needs.{needs}
 use Rattle.reader.proofs.item.any_name.Statement.{statement}
 use Rattle.reader.proofs.item.any_name.Tie as tie
-use Rattle.reader.proofs.item.fresh.Reads as fresh-reads
 
 returns : tie.Need-returns
 returns c = λ s links l f. plain-full s (c .before .args .entries .now) _ _ _ _ (c .before .pre .0) (c .before .pre .1) (c .before .pre .2) (c .before .pre .3) (f .size) links (omega arith) refl

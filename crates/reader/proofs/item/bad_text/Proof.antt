@@ -4,7 +4,6 @@ use Rattle.format.proofs.Tests.{eqb-yes, eqb-no}
 use borrow.Author.Needs.{needs}
 use Rattle.reader.proofs.item.bad_text.Statement.{statement}
 use Rattle.reader.proofs.item.bad_text.Tie as tie
-use Rattle.wire.proofs.utf8.is_utf8.Reads as is-utf8-reads
 
 is-utf8-requires : tie.Need-is-utf8-requires
 is-utf8-requires c κs = search needs

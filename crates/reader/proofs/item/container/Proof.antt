@@ -5,7 +5,6 @@ use Rattle.reader.proofs.Flat.{container-deep, container-empty, contain
 use borrow.Author.Needs.{needs}
 use Rattle.reader.proofs.item.container.Statement.{statement}
 use Rattle.reader.proofs.item.container.Tie as tie
-use Rattle.format.proofs.header.FieldCount.of.Reads as of-reads
 
 returns : tie.Need-returns
 returns c = (λ strict s es links at names m. tt, λ s es o a bs at names keyed cs d. container-deep bs cs (c .before .pre) (omega arith))

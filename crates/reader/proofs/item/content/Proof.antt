@@ -5,8 +5,6 @@ use Rattle.reader.proofs.Contents.{content-cut, content-text, content-v
 use borrow.Author.Needs.{needs}
 use Rattle.reader.proofs.item.content.Statement.{statement}
 use Rattle.reader.proofs.item.content.Tie as tie
-use Rattle.format.proofs.header.ByteLength.of.Reads as of-reads
-use Rattle.reader.proofs.item.bad_text.Reads as bad-text-reads
 
 of-requires : tie.Need-of-requires
 of-requires c κs = search needs

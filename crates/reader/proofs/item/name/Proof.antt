@@ -6,11 +6,6 @@ use Rattle.reader.proofs.Contents.{content-again, content-cut, content-
 use borrow.Author.Needs.{needs}
 use Rattle.reader.proofs.item.name.Statement.{statement}
 use Rattle.reader.proofs.item.name.Tie as tie
-use Rattle.format.proofs.header.ByteLength.of.Reads as of-reads
-use Rattle.reader.proofs.item.again.Reads as again-reads
-use Rattle.reader.proofs.item.any_name.Reads as any-name-reads
-use Rattle.reader.proofs.item.new_name.Reads as new-name-reads
-use Rattle.wire.proofs.utf8.is_utf8.Reads as is-utf8-name-reads
 
 add-kind : tie.Need-add-kind
 add-kind c = search needs

@@ -5,10 +5,6 @@ use Rattle.reader.proofs.NameEntry.{strict-known, strict-full, entry-so
 use borrow.Author.Needs.{needs}
 use Rattle.reader.proofs.item.new_name.Statement.{statement}
 use Rattle.reader.proofs.item.new_name.Tie as tie
-use Rattle.reader.proofs.item.fresh.Reads as fresh-reads
-use Rattle.symbols.proofs.entry.key_of.Reads as key-of-reads
-use Rattle.symbols.proofs.lookup.enter.Reads as enter-reads
-use Rattle.symbols.proofs.lookup.find.Reads as find-reads
 
 sub-part : tie.Need-sub-part
 sub-part c = search needs

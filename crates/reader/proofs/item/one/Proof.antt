@@ -4,8 +4,6 @@ use Rattle.reader.proofs.Heads.{judged-item}
 use borrow.Author.Needs.{needs}
 use Rattle.reader.proofs.item.one.Statement.{statement}
 use Rattle.reader.proofs.item.one.Tie as tie
-use Rattle.reader.proofs.item.judge.Reads as judge-reads
-use Rattle.wire.proofs.header.header_at.Reads as header-at-reads
 
 header-at-requires : tie.Need-header-at-requires
 header-at-requires c κs = search needs

@@ -6,8 +6,6 @@ use Rattle.reader.specs.declared.checking.Checked.{Checked}
 use Rattle.reader.specs.Answers.{answerOf, rowsIn}
 use Rattle.reader.proofs.reading.count_of.Statement.{statement}
 use Rattle.reader.proofs.reading.count_of.Tie as tie
-use Rattle.reader.proofs.reading.count_of.Reads as reads
-use Rattle.reader.proofs.reading.count_of.Lts as lts
 
 -- src/reading.rt:50:23
 enum-known-answer : tie.Need-enum-known-answer

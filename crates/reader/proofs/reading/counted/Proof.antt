@@ -3,10 +3,6 @@ use mathlib.Core.Path.{sym}
 use borrow.Author.Needs.{needs}
 use Rattle.reader.proofs.reading.counted.Statement.{statement}
 use Rattle.reader.proofs.reading.counted.Tie as tie
-use Rattle.reader.proofs.reading.counted.Reads as reads
-use Rattle.reader.proofs.reading.counted.Lts as lts
-use Rattle.reader.proofs.checking.walk.Reads as walk-reads
-use Rattle.reader.proofs.reading.most.Reads as most-reads
 
 -- src/reading.rt:42:40
 most-requires : tie.Need-most-requires

@@ -1,4 +1,3 @@
-use mathlib.Core.Path.{sym}
 use Rattle.wire.proofs.WidthLaws.{reach-is, reach-most}
 -- `wire::header::reaches` meets its contract. Assumes nothing.
 use borrow.Author.Needs.{needs}

@@ -1,4 +1,3 @@
-use mathlib.Core.Path.{_∙_}
 use Rattle.wire.proofs.WidthLaws.{width-is}
 -- `wire::header::width` meets its contract: the sum of what is reached. Assumes nothing.
 use borrow.Author.Needs.{needs}

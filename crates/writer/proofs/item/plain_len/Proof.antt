@@ -2,7 +2,6 @@
 use native.Mathlib.Omega.{arith}
 use Prim.Native.Nat.{_-_}
 use mathlib.Core.Path.{refl, _∙_}
-use mathlib.Core.List.{[]}
 use Rattle.format.proofs.Headers.{following-single, following-double, following-small}
 use Rattle.writer.proofs.RowLaws.{header-most, length-fixed, length-sized}
 use borrow.Author.Needs.{needs}

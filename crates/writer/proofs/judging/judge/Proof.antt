@@ -6,7 +6,7 @@ use mathlib.Core.Path.{_≡_, refl, sym, ap, subst}
 use Prim.Native.Nat.{ℕ, _-_, _*_, _<_, _≤_, _^_}
 use native.Mathlib.Omega.{arith}
 use mathlib.Core.WellFounded.{WellFounded, InvImage·wf}
-use mathlib.Core.List.{List, [], _∷_}
+use mathlib.Core.List.{List, _∷_}
 use lib.ListN.{length, take, getD, replicate}
 use lib.WfN.{Nat·lt-wfRel}
 use lib.Dec.{T as Holds, ltb, ltb→lt, nltb→le, lit<}
@@ -53,9 +53,9 @@ use Rattle.format.proofs.row.Row.Laws as T′
 use Rattle.writer.specs.declared.state.State.{State}
 use Rattle.writer.specs.Steps.{begun}
 use Rattle.writer.specs.Judging.{After, Next, Judging, Verdict}
-use Rattle.writer.proofs.After.{after}
-use Rattle.writer.proofs.LocalArray.{repeat-is, array-in, array-out}
-use Rattle.writer.proofs.Borrowing.{Ref, borrows, gives-back, passes, takes-back}
+use Rattle.format.proofs.WalkRest.{after}
+use Rattle.format.proofs.WalkArray.{repeat-is, array-in, array-out}
+use Rattle.format.proofs.WalkBorrow.{Ref, borrows, gives-back, passes, takes-back}
 use Rattle.writer.proofs.Loop.{blank, judging-start, judging-ready, judging-within, judging-on, judging-off}
 use Rattle.writer.proofs.state.State as S
 use Rattle.writer.proofs.state.State.Laws as S′

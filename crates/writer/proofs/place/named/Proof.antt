@@ -1,6 +1,5 @@
 -- `writer::place::named` meets its contract. Assumes nothing.
 use mathlib.Core.Path.{sym, _∙_}
-use Rattle.format.specs.Choice.{pick}
 use Rattle.format.proofs.Tests.{eqb-yes, eqb-no, pick-yes, pick-no}
 use Rattle.writer.specs.Steps.{keyedBy, namedBy}
 use borrow.Author.Needs.{needs}

@@ -8,7 +8,7 @@ use native.Mathlib.Nat.{le-antisymm, lt-of-lt-of-le}
 use native.Mathlib.Numerals.{add-one-le, add-one-dec}
 use native.Mathlib.Omega.{arith}
 use mathlib.Core.WellFounded.{WellFounded, InvImage·wf}
-use mathlib.Core.List.{List, [], _∷_}
+use mathlib.Core.List.{List, _∷_}
 use lib.ListN.{length, getD, take}
 use lib.WfN.{Nat·lt-wfRel}
 use lib.Dec.{T as Holds, ltb, ltb→lt, nltb→le, lit<}
@@ -58,8 +58,8 @@ use Rattle.format.proofs.row.Row as T
 use Rattle.format.proofs.row.Row.Laws as T′
 use Rattle.writer.specs.Output.{Puts, PutsAt}
 use Rattle.writer.specs.Plan.{Putting, encodedAt}
-use Rattle.writer.proofs.After.{after}
-use Rattle.writer.proofs.Again.{Aside, borrows-again, comes-back}
+use Rattle.format.proofs.WalkRest.{after}
+use Rattle.format.proofs.WalkSlice.{Aside, borrows-again, comes-back}
 use Rattle.writer.proofs.PutLaws.{blank, next-asks, put-all, put-more, put-none}
 use Rattle.writer.proofs.putting.put_next as put-next
 use Rattle.writer.proofs.putting.put_next.Symbol as put-next-def

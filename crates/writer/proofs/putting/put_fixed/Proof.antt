@@ -1,6 +1,5 @@
 -- `writer::putting::put_fixed` meets its contract, kind by kind. Assumes nothing.
 use mathlib.Core.Path.{refl}
-use mathlib.Core.List.{[]}
 use native.Mathlib.Omega.{arith}
 use lib.ListN.{length-set}
 use Rattle.format.proofs.Headers.{following-single, following-double, following-small}

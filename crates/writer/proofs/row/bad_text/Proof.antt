@@ -1,5 +1,5 @@
 -- `writer::row::bad_text` meets its contract. Assumes nothing.
-use mathlib.Core.Path.{sym, _∙_}
+use mathlib.Core.Path.{sym}
 use Rattle.format.specs.Choice.{_&&_}
 use Rattle.format.proofs.Tests.{eqb-yes, eqb-no, and-no-left}
 use borrow.Author.Needs.{needs}
