@@ -1,1 +1,2 @@
--- Laws for the C interface.
+-- The laws of writing and reading together.
+pub mod Laws

@@ -1,2 +1,3 @@
--- What the answers of the C interface are.
+-- What the answers of the C interface are, and the laws of writing and reading together.
 pub mod Answers
+pub mod Laws

@@ -1,4 +1,5 @@
 -- `writer::item::plain_len` meets its contract, kind by kind. Assumes nothing.
+use mathlib.Core.List.{[]}
 use native.Mathlib.Omega.{arith}
 use Prim.Native.Nat.{_-_}
 use mathlib.Core.Path.{refl, _∙_}

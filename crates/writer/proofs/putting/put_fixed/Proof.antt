@@ -1,4 +1,5 @@
 -- `writer::putting::put_fixed` meets its contract, kind by kind. Assumes nothing.
+use mathlib.Core.List.{[]}
 use mathlib.Core.Path.{refl}
 use native.Mathlib.Omega.{arith}
 use lib.ListN.{length-set}

@@ -1,4 +1,5 @@
 -- `writer::putting::put_sized` meets its contract: the header, and the content after it. Assumes nothing.
+use mathlib.Core.List.{[]}
 use native.Mathlib.Omega.{arith}
 use lib.ListN.{length-append}
 use Rattle.format.specs.Header.{header}

@@ -1,0 +1,76 @@
+-- Two laws of writing and reading together, from what `write` and `read` promise alone. proofs/Laws proves both.
+use mathlib.Core.Path.{_≡_}
+use Prim.Native.Nat.{ℕ, _^_, _≤_, _<_}
+use mathlib.Core.List.{List}
+use lib.ListN.{length, take, drop}
+use Rattle.format.specs.declared.bundle.Bundle.{Bundle}
+use Rattle.format.specs.declared.error.Mode.{Mode}
+use Rattle.format.specs.declared.row.Row.{Row}
+use Rattle.format.specs.Answer.{counted, good, stored}
+use Rattle.format.specs.Item.{Item}
+use Rattle.format.specs.WellFormed.{All, Bytes}
+use Rattle.format.specs.Reading.{counts, items, options}
+use Rattle.format.specs.Rows.{itemsAt, rows}
+use Rattle.format.specs.Canonical.{canonical}
+use Rattle.format.specs.Writing.{fitted, writing}
+use Rattle.reader.specs.declared.checking.Checked.{Checked}
+use Rattle.reader.specs.declared.checking.Checked.the-variants.{Good}
+use Rattle.reader.specs.Answers as reader
+use Rattle.writer.specs.declared.writing.Written.{Written}
+use Rattle.writer.specs.declared.writing.Written.the-variants.{Done}
+use Rattle.writer.specs.Answers as writer
+
+-- ---- what the functions promise
+
+-- `writer::write` of the rows `rs` over a text, into a buffer that held `old`: it answers `w` and leaves `new`. The parts are its two `ensures`.
+pub record Wrote (rs : List Row) (text old : List ℕ) (w : Written) (new : List ℕ) : Type 0 where
+  pub answer : writer.answerOf w ≡ counted (writing rs text (length old))
+  pub buffer : new ≡ stored old (writing rs text (length old))
+
+-- `reader::read_in` of bytes, into a table of rows: it answers `r` and leaves `table′`. The parts are its two `ensures`, and in lenient mode those of `read`.
+pub record Read (mode : Mode) (bytes : List ℕ) (table : List Row) (r : Checked) (table′ : List Row) : Type 0 where
+  pub answer : reader.answerOf r ≡ counts (options mode (length table)) bytes
+  pub filled : table′ ≡ stored table (rows (options mode (length table)) bytes)
+
+-- A row's number is a word, which its type `u64` says, as `u8` says that text is bytes.
+abbrev pub Word : Row → Type 0
+Word r = r .number < 2 ^ 64
+
+-- ---- what is written reads back
+
+-- Bytes that were read into a table: they are a bundle with the items of the rows `rs` over a text.
+pub record ReadsBack (rs : List Row) (text bytes : List ℕ) (table : List Row) (r : Checked) (table′ : List Row) : Type 0 where
+  -- the answer is good, with as many rows
+  pub bundle : Bundle
+  pub reads : r ≡ Good bundle
+  pub size : bundle .rows ≡ length rs
+  -- the first rows of the table mean over the bytes what `rs` means over the text: their starts may differ, kind, number and content do not
+  pub meant : itemsAt bytes (take (length rs) table′) ≡ itemsAt text rs
+  -- the rows after them stay as they were
+  pub rest : drop (length rs) table′ ≡ drop (length rs) table
+
+-- What `write` writes reads back, by `read`'s own promise, as the rows' items: in both modes, and into any table that has as many rows.
+abbrev pub WrittenReadsBack : Type 0
+WrittenReadsBack =
+    (rs : List Row) (text old new : List ℕ) (n : ℕ) → Bytes text → All Word rs → Wrote rs text old (Done n) new
+    → (mode : Mode) (table table′ : List Row) (r : Checked) → length rs ≤ length table → Read mode (take n new) table r table′
+    → ReadsBack rs text (take n new) table r table′
+
+-- ---- what was read is written canonically
+
+-- A buffer into which the canonical encoding of a bundle's items was written, if it fits.
+pub record Rewritten (mode : Mode) (bytes : List ℕ) (table : List Row) (old : List ℕ) (w : Written) (new : List ℕ) : Type 0 where
+  -- the items that the bytes read as
+  pub xs : List Item
+  pub meant : items (options mode (length table)) bytes ≡ good xs
+  -- the answer is the encoding's length, or error 10 where that is over the limit or the buffer
+  pub answer : writer.answerOf w ≡ counted (fitted (length old) (canonical xs))
+  -- the encoding stands first in the buffer, and the rest stays as it was; on an error all of it
+  pub buffer : new ≡ stored old (fitted (length old) (canonical xs))
+
+-- Writing the rows that `read` filled over the bundle's own bytes gives its canonical encoding, in whichever mode it was read.
+abbrev pub RewritesCanonically : Type 0
+RewritesCanonically =
+    (mode : Mode) (bytes : List ℕ) (table table′ : List Row) (b : Bundle) → Bytes bytes → Read mode bytes table (Good b) table′
+    → (old new : List ℕ) (w : Written) → Wrote (take (b .rows) table′) bytes old w new
+    → Rewritten mode bytes table old w new
