@@ -7,7 +7,7 @@ use mathlib.Core.Option.{Option, none, some}
 use Prim.Native.Nat.{ℕ, zero, suc, _+_, _-_, _≤_, _<_}
 use native.Mathlib.Nat.{add-zero, zero-add}
 use native.Mathlib.Omega.{arith}
-use lib.ListN.{length, take, getD, set, replicate, length-set, length-replicate, getD-replicate}
+use lib.ListN.{length, take, getD, set, replicate, length-set, length-replicate, getD-replicate, length-map}
 use lib.Seq.{getD-take, length-take-le, getD-set-same, getD-set-other}
 use Rattle.format.specs.Item.{Item}
 use Rattle.format.specs.Names.{sameName, indexFrom, index}
@@ -94,6 +94,10 @@ module _ (a b es : List ℕ) (count : ℕ) (x : Item) (le : count ≤ length es)
 
 pub count-le : {a b es : List ℕ} {count : ℕ} → Table a b es count → count ≤ length es
 count-le t = omega (arith, t .size, t .few)
+
+pub length-names : {a b es : List ℕ} {count : ℕ} → Table a b es count → length (namesIn a b (take count es)) ≡ count
+unfolding namesIn
+length-names {a} {b} {es} {count} t = length-map (take count es) (nameIn a b) ∙ length-take-le count es (count-le t)
 
 -- ---- a search along a chain
 

@@ -84,10 +84,6 @@ part-back {w} {l₀} {l} {more} {rest} {n} h ys r q e le capacity er ey =
 
 -- ---- another start
 
--- the first byte was stored before
-pub rebase : {w l rest : List ℕ} (l₀ : List ℕ) (n b : ℕ) → Wrote w (set l₀ 0 b) l (n + 1) rest → Wrote w l₀ l (n + 1) rest
-rebase l₀ n b h = record { front = h .front; back = h .back ∙ drop-set-lt (n + 1) l₀ 0 b (omega arith); long = h .long ∙ length-set l₀ 0 b }
-
 -- h was written at once, and more is to come
 pub wrote-front : (h rest l₀ l : List ℕ) (n : ℕ) → n ≡ length h → l ≡ h ++ drop (length h) l₀ → length h ≤ length l₀ → Wrote (h ++ rest) l₀ l n rest
 wrote-front h rest l₀ l n en el capacity =

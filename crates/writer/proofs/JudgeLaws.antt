@@ -8,8 +8,7 @@ use Prim.Native.Nat.{ℕ, _+_, _^_, _≤_, _<_}
 use native.Mathlib.Numerals.{add-one}
 use native.Mathlib.Omega.{arith}
 use lib.Dec.{eqb, ltb, leb}
-use lib.ListN.{length, take, set, length-append, length-map}
-use lib.Seq.{length-take-le}
+use lib.ListN.{length, set, length-append, length-map}
 use Rattle.format.specs.declared.row.Row.{Row}
 use Rattle.format.specs.Choice.{pick, _&&_, _||_}
 use Rattle.format.specs.Answer.{failure, rule, first, fail, unless, then}
@@ -22,7 +21,7 @@ use Rattle.format.specs.Rows.{itemAt}
 use Rattle.format.specs.Writing.{isBad, Progress, begin, withItem, rowRules, judge}
 use Rattle.format.proofs.Tests.{cases, eqb-yes, eqb-no, leb-no, ltb-yes, ltb-no, and-no-left, and-no-right, pick-yes, pick-no, applied-none}
 use Rattle.format.proofs.Names.{noted-plain}
-use Rattle.symbols.specs.Entry.{nameIn, namesIn}
+use Rattle.symbols.proofs.ChainLaws.{length-names}
 use Rattle.format.proofs.Lists.{map-append, all-append}
 use Rattle.writer.specs.declared.state.State.{State}
 use Rattle.writer.specs.Stack.{bottom, Stands}
@@ -178,10 +177,7 @@ module _ {text es links st plan : List ℕ} {xs : List Row} {s : State} (a : Aft
   -- ---- what the rules ask
 
   pub names-count : length (a .progress .names) ≡ s .names
-  unfolding namesIn
-  names-count =
-      ap length (a .names ∙ sym (a .measured .names)) ∙ length-map (take (s .names) es) (nameIn text text)
-      ∙ length-take-le (s .names) es (omega (arith, a .measured .table .table .few, a .measured .table .table .size))
+  names-count = ap length (a .names ∙ sym (a .measured .names)) ∙ length-names (a .measured .table .table)
 
   pub items-count : length (a .progress .items) ≡ s .row
   items-count = ap length (a .items) ∙ length-map xs (itemAt text) ∙ a .rows

@@ -18,11 +18,8 @@ use Rattle.symbols.proofs.ChainLaws.{chain-start}
 use Rattle.writer.specs.declared.state.State.{State}
 use Rattle.writer.specs.Stack.{bottom, openedOf}
 use Rattle.writer.specs.Steps.{begun}
+use Rattle.writer.proofs.RowLaws.{blank}
 use Rattle.writer.specs.Judging.{After, Ready, Next, Judging, Verdict}
-
--- the row past the end of a list of rows
-abbrev pub blank : Row
-blank = record { kind = 0; number = 0; start = 0 }
 
 module _ (text : List ℕ) (rs : List Row) (n : ℕ) where
   -- before the first row

@@ -5,8 +5,8 @@ use mathlib.Core.List.{List, []}
 use mathlib.Core.Option.{Option, none, some}
 use Prim.Native.Nat.{ℕ, _+_, _-_, _*_, _^_, _≤_, _<_}
 use native.Mathlib.Omega.{arith}
-use lib.ListN.{length, take, drop, set, getD, length-set, length-map}
-use lib.Seq.{length-take-le, getD-set-same, getD-set-other}
+use lib.ListN.{length, take, drop, set, getD, length-set}
+use lib.Seq.{getD-set-same, getD-set-other}
 use Rattle.format.specs.declared.row.Row.{Row}
 use Rattle.format.specs.Header.{header}
 use Rattle.format.specs.Utf8.{utf8}
@@ -19,7 +19,7 @@ use Rattle.format.proofs.Encoding.{at-lt}
 use Rattle.symbols.specs.Entry.{keyOf, sideOf, partIn, name, nameIn, namesIn, Sound}
 use Rattle.symbols.specs.Chains.{Chained}
 use Rattle.symbols.proofs.EntryLaws.{side-both, packed-name, packed-sound}
-use Rattle.symbols.proofs.ChainLaws.{index-some, same-via, count-le}
+use Rattle.symbols.proofs.ChainLaws.{index-some, length-names, same-via, count-le}
 use Rattle.writer.specs.declared.state.State.{State}
 use Rattle.writer.specs.Steps.{namedBy}
 use Rattle.writer.specs.Names.{Placed, Naming}
@@ -87,10 +87,8 @@ module _ (text : List ℕ) (r : Row) (lo : 10 ≤ r .kind) (fine : isBad text r 
         (λ j l. same-via (itemAt text r) (nameIn text text (getD es g 0)) (nameIn text text (getD es j 0)) h ∙ ch .unlike g j (p .known) l)
 
 pub index-small : {a b es links : List ℕ} {count i : ℕ} (x : Item) → Chained a b es links count → index x (namesIn a b (take count es)) ≡ some i → i < 256
-unfolding namesIn
 index-small {a} {b} {es} {links} {count} {i} x ch e =
-    let l = at-lt (namesIn a b (take count es)) i (index-at x (namesIn a b (take count es)) e .at) in
-    omega (arith, l, length-map (take count es) (nameIn a b), length-take-le count es (count-le (ch .table)), ch .table .few)
+    omega (arith, at-lt (namesIn a b (take count es)) i (index-at x (namesIn a b (take count es)) e .at), length-names (ch .table), ch .table .few)
 
 -- ---- one name more
 

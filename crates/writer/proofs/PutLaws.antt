@@ -1,7 +1,7 @@
 -- Rows written one after the other as they were planned: each stands after those before it. Assumes nothing.
 use mathlib.Core.Path.{_≡_, refl, sym, ap, _∙_}
 use mathlib.Core.Bool.{false}
-use mathlib.Core.List.{List, [], _∷_, _++_, append-assoc, append-nil}
+use mathlib.Core.List.{List, [], _∷_, _++_, append-assoc}
 use mathlib.Core.Option.{Option, none, some}
 use Prim.Native.Nat.{ℕ, suc, _+_, _≤_, _<_}
 use native.Mathlib.Nat.{le-trans, lt-of-lt-of-le}
@@ -21,11 +21,9 @@ use Rattle.format.proofs.Lists.{all-at, map-append}
 use Rattle.format.proofs.Encoding.{at-lt}
 use Rattle.format.proofs.Names.{canonical-append, index-at, names-append, names-longer}
 use Rattle.writer.specs.Output.{Puts, PutsAt}
+use Rattle.writer.proofs.RowLaws.{blank}
+use Rattle.writer.proofs.MeasureLaws.{canonical-more}
 use Rattle.writer.specs.Plan.{Planned, Putting, encodedAt, encodedBy, referTo}
-
--- any row
-abbrev pub blank : Row
-blank = record { kind = 0; number = 0; start = 0 }
 
 -- ---- bytes after bytes
 
@@ -61,10 +59,6 @@ encoded-plan plan xs ys x p l =
 names-fewer : (xs ys : List Item) → length (namesFrom [] (xs ++ ys)) ≤ 256 → length (namesFrom [] xs) ≤ 256
 names-fewer xs ys l = le-trans (names-longer (namesFrom [] xs) ys) (rw (← names-append [] xs ys) l)
 
-canonical-snoc : (xs : List Item) (x : Item) → canonical (xs ++ (x ∷ [])) ≡ canonical xs ++ encoded (namesFrom [] xs) x
-unfolding canonical canonicalFrom
-canonical-snoc xs x = canonical-append [] xs (x ∷ []) ∙ ap (λ (bs : List ℕ). canonicalFrom [] xs ++ bs) (append-nil _)
-
 canonical-within : (xs ys : List Item) → length (canonical xs) ≤ length (canonical (xs ++ ys))
 unfolding canonical
 canonical-within xs ys = rw (canonical-append [] xs ys, length-append (canonicalFrom [] xs)) (omega arith)
@@ -96,7 +90,7 @@ module _ (text plan : List ℕ) (rows : List Row) (n capacity : ℕ) (p : Puttin
       ∙ rw (length-map (take i rows) (itemAt text), count)
 
   snoc-planned : canonical (xs ++ (x ∷ [])) ≡ canonical xs ++ encodedAt plan i x
-  snoc-planned = canonical-snoc xs x ∙ ap (λ (bs : List ℕ). canonical xs ++ bs) as-planned
+  snoc-planned = canonical-more xs x ∙ ap (λ (bs : List ℕ). canonical xs ++ bs) as-planned
 
   one-more : canonical (itemsAt text (take (i + 1) rows)) ≡ canonical xs ++ encodedAt plan i x
   one-more = rw (add-one, take-suc rows i blank (omega arith), map-append (itemAt text) (take i rows) (getD rows i blank ∷ [])) snoc-planned

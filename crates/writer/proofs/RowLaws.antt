@@ -21,6 +21,10 @@ use Rattle.format.proofs.Headers.{length-header}
 use Rattle.format.proofs.Encoding.{full-other}
 use Rattle.writer.specs.Rules.{badNumber}
 
+-- The row that stands past the end of a list of rows.
+abbrev pub blank : Row
+blank = record { kind = 0; number = 0; start = 0 }
+
 -- ---- tests
 
 or-any : (b : Bool) → b || true ≡ true

@@ -3,11 +3,11 @@ use mathlib.Core.Path.{_≡_, refl, sym, ap, _∙_}
 use mathlib.Core.Logic.{_≢_}
 use mathlib.Core.Bool.{Bool, true, false}
 use mathlib.Core.List.{List, [], append-nil}
-use Prim.Native.Nat.{ℕ, zero, suc, _≤_, _<_, min}
+use Prim.Native.Nat.{ℕ, _≤_, _<_, min}
 use native.Mathlib.Nat.{le-refl}
 use native.Mathlib.Omega.{arith}
 use lib.Dec.{eqb, ltb}
-use lib.ListN.{length, take, getD, length-take, length-map}
+use lib.ListN.{length, take}
 use lib.Seq.{take-length}
 use Rattle.format.specs.declared.row.Row.{Row}
 use Rattle.format.specs.Choice.{_||_, pick}
@@ -21,12 +21,12 @@ use Rattle.format.specs.Writing.{Progress, begin, fitted, judge, writing}
 use Rattle.format.proofs.Tests.{cases, eqb-no, eqb-true, equal, failed-good, good-inj, ltb-no, ltb-yes, none-some, or-no, order, pick-no, pick-yes}
 use Rattle.format.proofs.Steps.{then-good}
 use Rattle.format.proofs.Fitting.{fitted-fits, fitted-good, fitted-over}
-use Rattle.symbols.specs.Entry.{nameIn, namesIn}
 use Rattle.writer.specs.declared.state.State.{State}
 use Rattle.writer.specs.declared.writing.Written.{Written}
-use Rattle.writer.specs.Stack.{openedOf}
 use Rattle.writer.specs.Plan.{Measured, Putting}
 use Rattle.writer.specs.Judging.{Passed, Verdict, isRowError}
+use Rattle.writer.proofs.StackLaws.{opened-length}
+use Rattle.symbols.proofs.ChainLaws.{length-names}
 use Rattle.writer.specs.Answers.{answerOf, limitOf, rowsIn}
 
 -- ---- how many rows are judged
@@ -59,11 +59,6 @@ last-error n a b c d e = sym (eqb-true n 8 (rw (eqb-no a, eqb-no b, eqb-no c, eq
 
 -- ---- writing, case by case
 
-opened-length : (st : List ℕ) (d l : ℕ) → length (openedOf st d l) ≡ d
-unfolding openedOf
-opened-length st zero l = refl
-opened-length st (suc d) l = ap suc (opened-length st d (getD st d 0))
-
 -- an item is still due after the rows
 abbrev pub dueIn : State → Bool
 dueIn s = eqb (s .keyed) 1 || ltb 0 (s .depth)
@@ -81,11 +76,7 @@ module _ {text plan : List ℕ} {rs : List Row} {s : State} (g : Passed text pla
   measured = rw (g .after .items) at (g .after .measured)
 
   few-names : length (namesFrom [] (itemsAt text rs)) ≤ 256
-  unfolding namesIn
-  few-names =
-      let m = measured in
-      let e : length (take (s .names) (g .es)) ≡ length (namesFrom [] (itemsAt text rs)) = sym (length-map (take (s .names) (g .es)) (nameIn text text)) ∙ ap length (m .names) in
-      rw (← e, length-take (s .names) (g .es)) (omega (arith, m .table .table .few))
+  few-names = let m = measured in omega (arith, ap length (m .names), length-names (m .table .table), m .table .table .few)
 
 module _ (rs : List Row) (text : List ℕ) (capacity : ℕ) where
   writing-rows : max-rows < length rs → writing rs text capacity ≡ fail 7 0
@@ -181,13 +172,13 @@ putting-none text plan rs capacity long =
     }
 
 -- rows that are written as bs
-record Wrote (text plan : List ℕ) (rs : List Row) (capacity : ℕ) (bs : List ℕ) : Type 0 where
+record Succeeds (text plan : List ℕ) (rs : List Row) (capacity : ℕ) (bs : List ℕ) : Type 0 where
   few : length rs ≤ max-rows
   short : length text ≤ max-bytes
   putting : Putting text plan rs capacity
   bytes : bs ≡ canonical (itemsAt text rs)
 
-wrote : (text plan : List ℕ) (rs : List Row) (capacity : ℕ) (s : State) (bs : List ℕ) → Verdict text plan (take (limitOf (length rs) (length text)) rs) s → writing rs text capacity ≡ good bs → Wrote text plan rs capacity bs
+wrote : (text plan : List ℕ) (rs : List Row) (capacity : ℕ) (s : State) (bs : List ℕ) → Verdict text plan (take (limitOf (length rs) (length text)) rs) s → writing rs text capacity ≡ good bs → Succeeds text plan rs capacity bs
 unfolding fail
 wrote text plan rs capacity s bs v e =
     order (length rs) max-rows

@@ -56,7 +56,8 @@ use Rattle.writer.specs.Judging.{After, Next, Judging, Verdict}
 use Rattle.format.proofs.WalkRest.{after}
 use Rattle.format.proofs.WalkArray.{repeat-is, array-in, array-out}
 use Rattle.format.proofs.WalkBorrow.{Ref, borrows, gives-back, passes, takes-back}
-use Rattle.writer.proofs.Loop.{blank, judging-start, judging-ready, judging-within, judging-on, judging-off}
+use Rattle.writer.proofs.RowLaws.{blank}
+use Rattle.writer.proofs.Loop.{judging-start, judging-ready, judging-within, judging-on, judging-off}
 use Rattle.writer.proofs.state.State as S
 use Rattle.writer.proofs.state.State.Laws as S′
 use Rattle.writer.proofs.judging.begin as begin′

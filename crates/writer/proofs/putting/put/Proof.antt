@@ -60,7 +60,8 @@ use Rattle.writer.specs.Output.{Puts, PutsAt}
 use Rattle.writer.specs.Plan.{Putting, encodedAt}
 use Rattle.format.proofs.WalkRest.{after}
 use Rattle.format.proofs.WalkSlice.{Aside, borrows-again, comes-back}
-use Rattle.writer.proofs.PutLaws.{blank, next-asks, put-all, put-more, put-none}
+use Rattle.writer.proofs.RowLaws.{blank}
+use Rattle.writer.proofs.PutLaws.{next-asks, put-all, put-more, put-none}
 use Rattle.writer.proofs.putting.put_next as put-next
 use Rattle.writer.proofs.putting.put_next.Symbol as put-next-def
 use Rattle.writer.proofs.putting.put_next.Symbol.{name as #put-next}
