@@ -12,7 +12,8 @@ use lib.Seq.{getD-take, length-take-le, getD-set-same, getD-set-other}
 use Rattle.format.specs.Item.{Item}
 use Rattle.format.specs.Names.{sameName, indexFrom, index}
 use Rattle.format.proofs.Tests.{cases, clash, equal, order, eqb-true, and-true, pick-yes, pick-no, none-some}
-use Rattle.format.proofs.Names.{same-true}
+use Rattle.format.proofs.Names.{same-true, index-at}
+use Rattle.format.proofs.Encoding.{at-lt}
 use Rattle.symbols.specs.Entry.{keyOf, keyIn, name, nameIn, namesIn, Sound}
 use Rattle.symbols.specs.Chains.{foundOf, Table, bucket, Chained}
 use Rattle.symbols.specs.declared.lookup.Lookup.the-variants.{At, Nothing}
@@ -277,3 +278,8 @@ module _ {a b es links : List ℕ} {count e : ℕ} (c : Chained a b es links cou
             let m : i < count = omega arith in
             rw (old i m, old j (omega arith)) (c .unlike i j m g));
       }
+
+-- an index fits the table
+pub index-small : {a b es links : List ℕ} {count i : ℕ} (x : Item) → Chained a b es links count → index x (namesIn a b (take count es)) ≡ some i → i < 256
+index-small {a} {b} {es} {links} {count} {i} x ch e =
+    omega (arith, at-lt (namesIn a b (take count es)) i (index-at x (namesIn a b (take count es)) e .at), length-names (ch .table), ch .table .few)

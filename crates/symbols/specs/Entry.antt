@@ -1,6 +1,6 @@
 -- Packed entries. A name's bytes are a part of the first or of the second of two slices; an entry packs where they stand and a key:
 -- where * 2^48 + key, where = start * 2 + side, key = mark * 2^16 + length * 2 + (kind - 10).
-use Prim.Native.Nat.{ℕ, _+_, _-_, _*_, _/_, _%_, _≤_}
+use Prim.Native.Nat.{ℕ, _+_, _-_, _*_, _/_, _%_, _≤_, _<_}
 use mathlib.Core.Path.{_≡_}
 use mathlib.Core.List.{List, map}
 use lib.ListN.{length, take, drop}
@@ -52,3 +52,13 @@ namesIn a b = map (nameIn a b)
 pub record Sound (a b : List ℕ) (e : ℕ) : Type 0 where
   pub inside : startIn e + lengthIn e ≤ length (sideOf (sideIn e) a b)
   pub keyed : keyIn e ≡ keyOf (kindIn e) (partIn a b e)
+
+-- A name's bytes stand at start of one of two slices.
+pub record Part (a b : List ℕ) (kind side start : ℕ) (content : List ℕ) : Type 0 where
+  pub low : 10 ≤ kind
+  pub high : kind ≤ 11
+  pub sides : side < 2
+  pub short : length content ≤ 16384
+  pub near : start ≤ 16384
+  pub inside : start + length content ≤ length (sideOf side a b)
+  pub is : content ≡ take (length content) (drop start (sideOf side a b))

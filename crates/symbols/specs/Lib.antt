@@ -2,3 +2,4 @@
 pub mod Mark
 pub mod Entry
 pub mod Chains
+pub mod Noting

@@ -4,8 +4,9 @@ ghost use mathlib.Core.Option.{none};
 ghost use Prim.Native.Nat.{_+_, _<_, _≤_};
 ghost use lib.ListN.{length, take, set};
 ghost use Rattle.format.specs.Names.{index};
-ghost use Rattle.symbols.specs.Entry.{keyOf, nameIn, namesIn, name, Sound};
+ghost use Rattle.symbols.specs.Entry.{keyOf, nameIn, namesIn, name, Part, Sound};
 ghost use Rattle.symbols.specs.Chains.{foundOf, Chained};
+ghost use Rattle.symbols.specs.Noting.{NotedAs};
 use format::SymbolTable;
 
 // The links of the chains: a head for each bucket, then the next of each entry.
@@ -66,4 +67,46 @@ pub fn enter<'a>(
     entries[count] = e;
     links[Links::HEADS + count] = links[head];
     links[head] = (count + 1) as u16;
+}
+
+// What noting a name comes to: the index of its entry, one entry more, or no entry left for it.
+pub enum Noted {
+    Known(usize),
+    Entered,
+    Full,
+}
+
+// Looks up a name that stands in one of two slices, and puts it in where it is new.
+pub fn note<'a>(
+    first: &'a [u8],
+    second: &'a [u8],
+    entries: &mut [u64; SymbolTable::MAX_ENTRIES],
+    links: &mut [u16; Links::SIZE],
+    count: usize,
+    kind: u8,
+    side: u64,
+    start: usize,
+    content: &[u8],
+) -> Noted
+    requires { ⌜ Chained (now first) (now second) (now entries) (now links) count × Part (now first) (now second) kind side start (now content) ⌝ }
+    ensures { λ r. ⌜ NotedAs (now (first .entry)) (now (second .entry)) (now (entries .entry)) (now (entries .exit)) (now (links .entry)) (now (links .exit)) count (name kind (now (content .entry))) start r ⌝ }
+{
+    let key = crate::entry::key_of(kind, content);
+    match find(first, second, entries, links, count, kind, key, content) {
+        Lookup::At(i) => Noted::Known(i),
+        Lookup::Nothing => {
+            if SymbolTable::MAX_ENTRIES <= count {
+                return Noted::Full;
+            }
+            enter(
+                first,
+                second,
+                entries,
+                links,
+                count,
+                (start as u64 * 2 + side) * 281474976710656 + key,
+            );
+            Noted::Entered
+        }
+    }
 }

@@ -26,10 +26,10 @@ use Rattle.format.proofs.Lists.{map-append, all-append}
 use Rattle.writer.specs.declared.state.State.{State}
 use Rattle.writer.specs.Stack.{bottom, Stands}
 use Rattle.writer.specs.Steps.{refused, valued, keyedBy, namedBy, openedBy}
-use Rattle.writer.specs.Plan.{Measured}
+use Rattle.encoder.specs.Plan.{Measured}
 use Rattle.writer.specs.Judging.{isRowError, After, Ready, Next}
 use Rattle.writer.proofs.StackLaws.{opened-length, stands-value, stands-key, stands-open}
-use Rattle.writer.proofs.MeasureLaws.{names-more, measure-plain}
+use Rattle.encoder.proofs.MeasureLaws.{names-more, measure-plain}
 
 -- ---- the rules, in their order
 
@@ -117,7 +117,7 @@ module _ {text es links st plan : List ℕ} {xs : List Row} {s : State} (a : Aft
   pub take-next : {es′ links′ st′ plan′ : List ℕ} (t : State) → first (rowRules text (a .progress) r) ≡ none
       → t .error ≡ 0 → t .row ≡ s .row + 1 → t .end ≡ s .end → t .size ≤ s .size + 16393
       → Stands st′ (t .depth) (t .left) (t .keyed) (t .row) (moved (a .progress .place) (itemAt text r))
-      → Measured text text es′ links′ plan′ (a .progress .items ++ (itemAt text r ∷ [])) (t .names) (t .size)
+      → Measured 1533 text text es′ links′ plan′ (a .progress .items ++ (itemAt text r ∷ [])) (t .names) (t .size)
       → Next text es′ links′ st′ plan′ xs r s t
   unfolding withItem
   take-next t rules e0 er ee small stands measured =
@@ -155,13 +155,13 @@ ready-more w n l = (w .stack, w .deep, w .top, omega (arith, w .row), omega (ari
 module _ {text es links st plan : List ℕ} {xs : List Row} {s : State} (a : After text es links st plan xs s) (r : Row) where
   pub value-next : {es′ links′ plan′ : List ℕ} (c n : ℕ) {t : State} → t ≡ valued st s c n → s .row < 1024 → n ≤ 16393
       → first (rowRules text (a .progress) r) ≡ none → isKey (itemAt text r) ≡ false → isContainer (itemAt text r) && ltb 0 (r .number) ≡ false
-      → Measured text text es′ links′ plan′ (a .progress .items ++ (itemAt text r ∷ [])) c (s .size + n) → Next text es′ links′ st plan′ xs r s t
+      → Measured 1533 text text es′ links′ plan′ (a .progress .items ++ (itemAt text r ∷ [])) c (s .size + n) → Next text es′ links′ st plan′ xs r s t
   unfolding valued itemAt
   value-next c n e lt l rules key box m = rw e (take-next a r (valued st s c n) rules refl refl refl (omega arith) (stands-value (a .stands) (itemAt text r) lt key box) m)
 
   pub named-next : {es′ links′ plan′ : List ℕ} (c n : ℕ) {t : State} → t ≡ namedBy st s (r .kind) c n → s .row < 1024 → n ≤ 16393 → r .kind ≢ 8
       → first (rowRules text (a .progress) r) ≡ none
-      → Measured text text es′ links′ plan′ (a .progress .items ++ (itemAt text r ∷ [])) c (s .size + n) → Next text es′ links′ st plan′ xs r s t
+      → Measured 1533 text text es′ links′ plan′ (a .progress .items ++ (itemAt text r ∷ [])) c (s .size + n) → Next text es′ links′ st plan′ xs r s t
   unfolding namedBy keyedBy itemAt isKey isContainer
   named-next c n e lt l box rules m =
       cases (eqb (r .kind) 11)
@@ -170,7 +170,7 @@ module _ {text es links st plan : List ℕ} {xs : List Row} {s : State} (a : Aft
 
   pub open-next : (n : ℕ) {st′ : List ℕ} {t : State} → t ≡ openedBy s (r .number) n → st′ ≡ set st (s .depth) (s .left) → s .depth < 32 → n ≤ 16393
       → first (rowRules text (a .progress) r) ≡ none → isKey (itemAt text r) ≡ false → isContainer (itemAt text r) && ltb 0 (r .number) ≡ true
-      → Measured text text es links plan (a .progress .items ++ (itemAt text r ∷ [])) (s .names) (s .size + n) → Next text es links st′ plan xs r s t
+      → Measured 1533 text text es links plan (a .progress .items ++ (itemAt text r ∷ [])) (s .names) (s .size + n) → Next text es links st′ plan xs r s t
   unfolding openedBy itemAt
   open-next n e f lt l rules key box m = rw (e, f) (take-next a r (openedBy s (r .number) n) rules refl refl refl (omega arith) (stands-open (a .stands) (itemAt text r) key box lt) m)
 
@@ -215,5 +215,5 @@ module _ {text es links st plan : List ℕ} {xs : List Row} {s : State} (a : Aft
     pub few-names : length (noted (itemAt text r) (a .progress .names)) ≤ 256
     few-names = omega (arith, ap length (noted-plain (itemAt text r) (a .progress .names) no-name), names-count, a .measured .table .table .few)
 
-    pub measured-plain : (n : ℕ) → s .row < 1024 → n ≡ length (full (itemAt text r)) → Measured text text es links plan (a .progress .items ++ (itemAt text r ∷ [])) (s .names) (s .size + n)
+    pub measured-plain : (n : ℕ) → s .row < 1024 → n ≡ length (full (itemAt text r)) → Measured 1533 text text es links plan (a .progress .items ++ (itemAt text r ∷ [])) (s .names) (s .size + n)
     measured-plain n lt e = measure-plain (a .measured) (itemAt text r) (omega (arith, items-count)) n no-name e

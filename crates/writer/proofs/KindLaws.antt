@@ -23,8 +23,9 @@ use Rattle.format.proofs.Tests.{equal, eqb-yes, eqb-no, leb-yes, leb-no, ltb-no
 use Rattle.format.proofs.Names.{item-path, noted-known, noted-fresh}
 use Rattle.writer.specs.declared.state.State.{State}
 use Rattle.writer.specs.Judging.{After}
-use Rattle.writer.proofs.RowLaws.{content-kinds, bad-content, bad-plain, number-other, inside, content-length, header-most, length-sized}
-use Rattle.writer.proofs.MeasureLaws.{known-text}
+use Rattle.encoder.proofs.Lengths.{header-most, length-sized}
+use Rattle.writer.proofs.RowLaws.{content-kinds, bad-content, bad-plain, number-other, inside, content-length}
+use Rattle.encoder.proofs.MeasureLaws.{known-text}
 use Rattle.writer.proofs.JudgeLaws.{rule-5, rule-6, rule-3, rule-8, rule-none, names-count, keys-are, depth-is, no-keys, few-names}
 
 -- ---- with content

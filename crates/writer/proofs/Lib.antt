@@ -2,7 +2,6 @@
 pub mod RowLaws
 pub mod OutputLaws
 pub mod StackLaws
-pub mod MeasureLaws
 pub mod JudgeLaws
 pub mod KindLaws
 pub mod NameLaws

@@ -42,6 +42,7 @@ module _ (text : List ℕ) (rs : List Row) (n : ℕ) where
           texts = λ i x e. none-some e;
           length-is = refl;
           plan-size = long;
+          wide = omega arith;
           planned = record { long = zero-le; refers = λ j x e. none-some e };
         };
       }

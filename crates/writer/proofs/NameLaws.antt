@@ -24,8 +24,9 @@ use Rattle.writer.specs.declared.state.State.{State}
 use Rattle.writer.specs.Steps.{namedBy}
 use Rattle.writer.specs.Names.{Placed, Naming}
 use Rattle.writer.specs.Judging.{After, Ready, Next}
-use Rattle.writer.proofs.RowLaws.{content-text, kind-most, inside, content-part, content-length, header-most}
-use Rattle.writer.proofs.MeasureLaws.{measure-known, measure-fresh}
+use Rattle.encoder.proofs.Lengths.{header-most}
+use Rattle.writer.proofs.RowLaws.{content-text, kind-most, inside, content-part, content-length}
+use Rattle.encoder.proofs.MeasureLaws.{measure-known, measure-fresh}
 use Rattle.writer.proofs.JudgeLaws.{named-next, items-count}
 use Rattle.writer.proofs.KindLaws.{content-full, content-small, is-name, known-none, fresh-none}
 
@@ -85,10 +86,6 @@ module _ (text : List ℕ) (r : Row) (lo : 10 ≤ r .kind) (fine : isBad text r 
         let h : sameName (itemAt text r) (nameIn text text (getD es g 0)) ≡ true = rw guessed-name (same-name-refl (itemAt text r)) in
         index-some text text es count (itemAt text r) (count-le (ch .table)) g (p .known) h
         (λ j l. same-via (itemAt text r) (nameIn text text (getD es g 0)) (nameIn text text (getD es j 0)) h ∙ ch .unlike g j (p .known) l)
-
-pub index-small : {a b es links : List ℕ} {count i : ℕ} (x : Item) → Chained a b es links count → index x (namesIn a b (take count es)) ≡ some i → i < 256
-index-small {a} {b} {es} {links} {count} {i} x ch e =
-    omega (arith, at-lt (namesIn a b (take count es)) i (index-at x (namesIn a b (take count es)) e .at), length-names (ch .table), ch .table .few)
 
 -- ---- one name more
 

@@ -1,67 +1,29 @@
--- Rows as they are written: in a lead byte, by a header, by the plan, and at an offset. Assumes nothing.
+-- A row as it is written, by the plan. Assumes nothing.
 use mathlib.Core.Path.{_≡_, refl, ap, sym, _∙_}
 use mathlib.Core.Bool.{false}
 use mathlib.Core.List.{List, [], _++_, append-nil}
-use Prim.Native.Nat.{ℕ, _+_, _-_, _≤_, _<_}
+use Prim.Native.Nat.{ℕ, _-_, _≤_, _<_}
 use native.Mathlib.Omega.{arith}
-use lib.ListN.{length, take, drop, getD, set, length-drop, drop-of-length-le}
-use lib.Seq.{drop-drop}
-use borrow.Rule.Slice.PartMut.{putMid}
+use lib.ListN.{take, drop, getD}
 use Rattle.format.specs.declared.row.Row.{Row}
-use Rattle.format.specs.Header.{header, digits, following}
-use Rattle.format.specs.Item.{Item, hasContent, isName}
+use Rattle.format.specs.Header.{header, following}
+use Rattle.format.specs.Item.{hasContent, isName}
 use Rattle.format.specs.Canonical.{full}
 use Rattle.format.specs.Rows.{contentOf, itemAt}
-use Rattle.format.proofs.Tests.{leb-yes, leb-no, ltb-yes, ltb-no, pick-yes, pick-no}
-use Rattle.format.proofs.Numbers.{length-digits}
+use Rattle.format.proofs.Tests.{leb-yes, leb-no, pick-yes, pick-no}
 use Rattle.format.proofs.Encoding.{full-other}
-use Rattle.wire.proofs.Wrote.{Wrote, start, byte-as, finish-all, byte-fits, byte-then, tail}
-use Rattle.writer.specs.Output.{Puts, PutsAt}
-use Rattle.writer.specs.Plan.{encodedBy, encodedAt}
-use Rattle.writer.proofs.RowLaws.{full-fixed, length-fixed}
-
--- ---- null, true, false and the floats: the kind, and m bytes after it
-
-module _ (x : Item) (out : List ℕ) (m : ℕ) (l : x .kind < 5) (e : following 0 (x .kind) ≡ m) (capacity : length (full x) ≤ length out) where
-  pub fixed-fits : m ≤ length (take (length (set out 0 (x .kind)) - 1) (drop 1 (set out 0 (x .kind))))
-  fixed-fits =
-      rw (length-digits m (x .number)) at (byte-fits (full x) out (digits m (x .number)) [] (x .kind) 0 (full-fixed x m l e) capacity)
-
-  module _ (r : ℕ) (ys : List ℕ) (er : r ≡ m) (ey : ys ≡ digits m (x .number) ++ drop m (take (length (set out 0 (x .kind)) - 1) (drop 1 (set out 0 (x .kind))))) where
-    pub fixed-wrote : Wrote (full x) out (putMid 1 (length (set out 0 (x .kind)) - 1) (set out 0 (x .kind)) ys) (1 + r) []
-    fixed-wrote =
-        let d = length-digits m (x .number) in
-        byte-then (full x) out (digits m (x .number)) ys (x .kind) r (full-fixed x m l e) capacity (er ∙ sym d) (rw d ey)
-
-    pub fixed-puts : Puts (full x) (1 + r) out (putMid 1 (length (set out 0 (x .kind)) - 1) (set out 0 (x .kind)) ys)
-    fixed-puts = finish-all fixed-wrote (omega (arith, length-fixed x m l e))
-
--- the kind alone
-pub lead-puts : (x : Item) (out : List ℕ) → x .kind < 5 → following 0 (x .kind) ≡ 0 → length (full x) ≤ length out → Puts (full x) 1 out (set out 0 (x .kind))
-unfolding digits
-lead-puts x out l e capacity =
-    let s = length-fixed x 0 l e in
-    finish-all (byte-as (start (full x) out) (full-fixed x 0 l e) (omega arith)) (omega arith)
-
--- ---- a row, by the plan
+use Rattle.encoder.specs.Plan.{referring, encodedAt}
+use Rattle.encoder.proofs.Lengths.{full-fixed}
 
 module _ (text : List ℕ) (row : Row) where
-  pub by-reference : (r : ℕ) → r < 256 → encodedBy r (itemAt text row) ≡ header 7 r
-  unfolding encodedBy
-  by-reference r l = pick-yes _ _ (ltb-yes l)
-
   headed : 5 ≤ row .kind → full (itemAt text row) ≡ header (row .kind - 5) (row .number) ++ contentOf text row
   unfolding itemAt
   headed k = full-other (itemAt text row) k
 
-  pub by-header : (r : ℕ) → 256 ≤ r → 5 ≤ row .kind → encodedBy r (itemAt text row) ≡ header (row .kind - 5) (row .number) ++ contentOf text row
-  unfolding encodedBy
-  by-header r l k = pick-no _ _ (ltb-no l) ∙ headed k
-
   module _ (plan : List ℕ) (i : ℕ) where
-    pub at-name : 10 ≤ row .kind → encodedAt plan i (itemAt text row) ≡ encodedBy (getD plan i 0) (itemAt text row)
+    pub at-name : 10 ≤ row .kind → encodedAt plan i (itemAt text row) ≡ referring (getD plan i 0) (header (row .kind - 5) (row .number) ++ contentOf text row)
     unfolding encodedAt isName itemAt
-    at-name l = pick-yes _ _ (leb-yes l)
+    at-name l = pick-yes _ _ (leb-yes l) ∙ ap (referring (getD plan i 0)) (headed (omega arith))
 
     other : row .kind < 10 → encodedAt plan i (itemAt text row) ≡ full (itemAt text row)
     unfolding encodedAt isName itemAt
@@ -82,11 +44,3 @@ module _ (text : List ℕ) (row : Row) where
       pub at-plain : hasContent (row .kind) ≡ false → encodedAt plan i (itemAt text row) ≡ header (row .kind - 5) (row .number)
       unfolding contentOf
       at-plain h = at-header ∙ rw (pick-no (take (row .number) (drop (row .start) text)) [] h) (append-nil (header (row .kind - 5) (row .number)))
-
--- ---- at an offset
-
--- the tail from there on came back as ys, with bs at its start
-pub puts-at : (at r : ℕ) (bs out ys : List ℕ) → Puts bs r (take (length out - at) (drop at out)) ys → PutsAt at bs (at + r) out (putMid at (length out - at) out ys)
-puts-at at r bs out ys h =
-    let z : drop (length out - at) (drop at out) ≡ [] = drop-of-length-le (drop at out) {i = length out - at} (omega (arith, length-drop at out)) in
-    (ap (λ (n : ℕ). at + n) (h .0), rw (h .1, tail at out, z, append-nil (bs ++ drop (length bs) (drop at out)), drop-drop (length bs) at out))

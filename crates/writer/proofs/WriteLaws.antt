@@ -23,7 +23,8 @@ use Rattle.format.proofs.Steps.{then-good}
 use Rattle.format.proofs.Fitting.{fitted-fits, fitted-good, fitted-over}
 use Rattle.writer.specs.declared.state.State.{State}
 use Rattle.writer.specs.declared.writing.Written.{Written}
-use Rattle.writer.specs.Plan.{Measured, Putting}
+use Rattle.encoder.specs.Plan.{Measured}
+use Rattle.writer.specs.Putting.{Putting}
 use Rattle.writer.specs.Judging.{Passed, Verdict, isRowError}
 use Rattle.writer.proofs.StackLaws.{opened-length}
 use Rattle.symbols.proofs.ChainLaws.{length-names}
@@ -72,7 +73,7 @@ module _ {text plan : List ℕ} {rs : List Row} {s : State} (g : Passed text pla
   unfolding judge
   passed-ends = rw (append-nil rs) at (g .after .run []) ∙ rw (passed-due, g .after .row)
 
-  measured : Measured text text (g .es) (g .links) plan (itemsAt text rs) (s .names) (s .size)
+  measured : Measured 1533 text text (g .es) (g .links) plan (itemsAt text rs) (s .names) (s .size)
   measured = rw (g .after .items) at (g .after .measured)
 
   few-names : length (namesFrom [] (itemsAt text rs)) ≤ 256

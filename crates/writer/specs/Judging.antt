@@ -14,7 +14,7 @@ use Rattle.format.specs.Rows.{itemsAt}
 use Rattle.format.specs.Writing.{Progress, begin, isBad, judge}
 use Rattle.writer.specs.declared.state.State.{State}
 use Rattle.writer.specs.Stack.{bottom, Stands}
-use Rattle.writer.specs.Plan.{Measured}
+use Rattle.encoder.specs.Plan.{Measured}
 
 -- The errors that a row by itself can be refused with.
 unfoldable pub isRowError : ℕ → Bool
@@ -31,7 +31,7 @@ pub record After (text es links st plan : List ℕ) (xs : List Row) (s : State) 
   pub rows : length xs ≡ s .row
   pub small : s .size ≤ s .row * 16393
   pub stands : Stands st (s .depth) (s .left) (s .keyed) (s .row) (progress .place)
-  pub measured : Measured text text es links plan (progress .items) (s .names) (s .size)
+  pub measured : Measured 1533 text text es links plan (progress .items) (s .names) (s .size)
 
 -- What a state is good for: one row more.
 pub record Ready (text st : List ℕ) (s : State) : Type 0 where

@@ -1,8 +1,7 @@
 pub mod Stack
 pub mod Steps
 pub mod Rules
-pub mod Output
-pub mod Plan
+pub mod Putting
 pub mod Judging
 pub mod Names
 pub mod Answers

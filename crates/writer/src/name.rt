@@ -22,6 +22,7 @@ use crate::item::outside;
 use crate::place::named;
 use crate::state::State;
 use crate::state::refuse;
+use encoder::putting::Reference;
 use format::Bundle;
 use format::Error;
 use format::Row;
@@ -38,9 +39,6 @@ use wire::utf8::is_utf8;
 pub struct Plan;
 
 impl Plan {
-    // in place of a reference: a name in full
-    pub const FULL: u16 = 256;
-
     pub const GUESSES: usize = 1024;
 
     pub const MODULUS: usize = 509;
@@ -141,7 +139,7 @@ fn fresh(
         start as u64 * 562949953421312 + key,
     );
     plan[Plan::GUESSES + start % Plan::MODULUS] = names as u16;
-    plan[at] = Plan::FULL;
+    plan[at] = Reference::FULL;
     let n = header_len(row.kind - 5, number) + number as usize;
     named(stack, s, row.kind, names + 1, n)
 }

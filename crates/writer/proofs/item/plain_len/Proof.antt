@@ -4,7 +4,7 @@ use native.Mathlib.Omega.{arith}
 use Prim.Native.Nat.{_-_}
 use mathlib.Core.Path.{refl, _∙_}
 use Rattle.format.proofs.Headers.{following-single, following-double, following-small}
-use Rattle.writer.proofs.RowLaws.{header-most, length-fixed, length-sized}
+use Rattle.encoder.proofs.Lengths.{header-most, length-fixed, length-sized}
 use borrow.Author.Needs.{needs}
 use Rattle.writer.proofs.item.plain_len.Statement.{statement}
 use Rattle.writer.proofs.item.plain_len.Tie as tie

@@ -2,7 +2,7 @@
 use native.Mathlib.Omega.{arith}
 use mathlib.Core.Path.{refl, ap, _∙_}
 use Rattle.writer.specs.Steps.{namedBy}
-use Rattle.writer.proofs.RowLaws.{header-most}
+use Rattle.encoder.proofs.Lengths.{header-most}
 use Rattle.writer.proofs.JudgeLaws.{ready-more}
 use borrow.Author.Needs.{needs}
 use Rattle.writer.proofs.name.known.Statement.{statement}

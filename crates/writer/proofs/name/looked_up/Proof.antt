@@ -4,13 +4,13 @@ use mathlib.Core.Path.{ap, sym, _∙_}
 use mathlib.Core.Bool.{not}
 use lib.ListN.{length}
 use Rattle.format.specs.Utf8.{utf8}
-use Rattle.symbols.proofs.ChainLaws.{found-some, found-nothing}
+use Rattle.symbols.proofs.ChainLaws.{found-some, found-nothing, index-small}
 use Rattle.format.proofs.Tests.{not-false}
 use Rattle.symbols.specs.Entry.{keyOf}
 use Rattle.writer.proofs.RowLaws.{kind-most}
 use Rattle.writer.proofs.JudgeLaws.{error-3, refuse-next}
 use Rattle.writer.proofs.KindLaws.{name-invalid}
-use Rattle.writer.proofs.NameLaws.{has-content, name-inside, looked-up, index-small, known-next}
+use Rattle.writer.proofs.NameLaws.{has-content, name-inside, looked-up, known-next}
 use borrow.Author.Needs.{needs}
 use Rattle.writer.proofs.name.looked_up.Statement.{statement}
 use Rattle.writer.proofs.name.looked_up.Tie as tie

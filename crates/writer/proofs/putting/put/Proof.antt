@@ -56,8 +56,9 @@ use Rattle.format.specs.Canonical.{canonical}
 use Rattle.format.specs.Rows.{itemAt, itemsAt}
 use Rattle.format.proofs.row.Row as T
 use Rattle.format.proofs.row.Row.Laws as T′
-use Rattle.writer.specs.Output.{Puts, PutsAt}
-use Rattle.writer.specs.Plan.{Putting, encodedAt}
+use Rattle.encoder.specs.Output.{Puts, PutsAt}
+use Rattle.encoder.specs.Plan.{encodedAt}
+use Rattle.writer.specs.Putting.{Putting}
 use Rattle.format.proofs.WalkRest.{after}
 use Rattle.format.proofs.WalkSlice.{Aside, borrows-again, comes-back}
 use Rattle.writer.proofs.RowLaws.{blank}

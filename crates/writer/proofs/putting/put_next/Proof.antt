@@ -1,7 +1,7 @@
 -- `writer::putting::put_next` meets its contract: what lies before the offset is as it was. Assumes nothing.
 use Rattle.format.specs.Rows.{itemAt}
-use Rattle.writer.specs.Plan.{encodedAt}
-use Rattle.writer.proofs.OutputLaws.{puts-at}
+use Rattle.encoder.specs.Plan.{encodedAt}
+use Rattle.encoder.proofs.OutputLaws.{puts-at}
 use borrow.Author.Needs.{needs}
 use Rattle.writer.proofs.putting.put_next.Statement.{statement}
 use Rattle.writer.proofs.putting.put_next.Tie as tie

@@ -3,7 +3,7 @@ use native.Mathlib.Omega.{arith}
 use mathlib.Core.Path.{refl, _∙_}
 use Rattle.format.specs.declared.row.Row.{Row}
 use Rattle.format.proofs.Tests.{ltb-yes, ltb-no}
-use Rattle.writer.proofs.RowLaws.{header-most}
+use Rattle.encoder.proofs.Lengths.{header-most}
 use Rattle.writer.proofs.JudgeLaws.{error-6, ready-more, refuse-next, value-next, open-next, no-key, a-container, measured-plain}
 use Rattle.writer.proofs.KindLaws.{plain-deep, container-none, container-fine, container-full}
 use borrow.Author.Needs.{needs}

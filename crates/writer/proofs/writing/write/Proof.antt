@@ -53,7 +53,7 @@ use Rattle.format.specs.Writing.{writing}
 use Rattle.format.proofs.row.Row as T
 use Rattle.writer.specs.declared.state.State.{State}
 use Rattle.writer.specs.declared.writing.Written.{Written}
-use Rattle.writer.specs.Plan.{Putting}
+use Rattle.writer.specs.Putting.{Putting}
 use Rattle.writer.specs.Judging.{Verdict}
 use Rattle.writer.specs.Answers.{answerOf, limitOf, rowsIn}
 use Rattle.format.proofs.WalkArray.{repeat-is, array-in, array-out}

@@ -20,7 +20,7 @@ use Rattle.format.proofs.Names.{names-append, canonical-append, noted-plain, no
 use Rattle.format.proofs.Encoding.{at-lt}
 use Rattle.symbols.specs.Entry.{nameIn, namesIn}
 use Rattle.symbols.specs.Chains.{Chained}
-use Rattle.writer.specs.Plan.{referTo, Planned, Measured}
+use Rattle.encoder.specs.Plan.{referTo, Planned, Measured}
 
 module _ (xs : List Item) (x : Item) where
   abbrev es : List Item
@@ -79,9 +79,9 @@ names-set a b es count e l =
 
 -- ---- one item more
 
-module _ {a b es links plan : List ℕ} {xs : List Item} {count size : ℕ} (m : Measured a b es links plan xs count size) (x : Item) (lt : length xs < 1024) where
+module _ {slots : ℕ} {a b es links plan : List ℕ} {xs : List Item} {count size : ℕ} (m : Measured slots a b es links plan xs count size) (x : Item) (lt : length xs < 1024) where
   -- what is no name
-  pub measure-plain : (n : ℕ) → isName x ≡ false → n ≡ length (full x) → Measured a b es links plan (xs ++ (x ∷ [])) count (size + n)
+  pub measure-plain : (n : ℕ) → isName x ≡ false → n ≡ length (full x) → Measured slots a b es links plan (xs ++ (x ∷ [])) count (size + n)
   measure-plain n p e =
       record {
         table = m .table;
@@ -89,6 +89,7 @@ module _ {a b es links plan : List ℕ} {xs : List Item} {count size : ℕ} (m :
         texts = λ i y q. m .texts i y (rw same-names at q);
         length-is = length-more xs x size n (m .length-is) (e ∙ ap length (sym (encoded-plain (namesFrom [] xs) x p)));
         plan-size = m .plan-size;
+        wide = m .wide;
         planned = planned-more xs x plan plan (m .planned) lt (λ j l. refl) (λ q. clash q p);
       }
     where
@@ -96,7 +97,7 @@ module _ {a b es links plan : List ℕ} {xs : List Item} {count size : ℕ} (m :
       same-names = names-more xs x ∙ noted-plain x (namesFrom [] xs) p
 
   -- a name that has an entry
-  pub measure-known : (i n : ℕ) → isName x ≡ true → index x (namesFrom [] xs) ≡ some i → n ≡ length (header 7 i) → Measured a b es links (set plan (length xs) i) (xs ++ (x ∷ [])) count (size + n)
+  pub measure-known : (i n : ℕ) → isName x ≡ true → index x (namesFrom [] xs) ≡ some i → n ≡ length (header 7 i) → Measured slots a b es links (set plan (length xs) i) (xs ++ (x ∷ [])) count (size + n)
   measure-known i n p q e =
       record {
         table = m .table;
@@ -104,8 +105,9 @@ module _ {a b es links plan : List ℕ} {xs : List Item} {count size : ℕ} (m :
         texts = λ j y h. m .texts j y (rw same-names at h);
         length-is = length-more xs x size n (m .length-is) (e ∙ ap length (sym (encoded-known (namesFrom [] xs) x i p q)));
         plan-size = length-set plan (length xs) i ∙ m .plan-size;
+        wide = m .wide;
         planned = planned-more xs x plan (set plan (length xs) i) (m .planned) lt (λ j l. getD-set-other plan (length xs) j i 0 (λ h. omega arith))
-            (λ _. getD-set-same plan (length xs) i 0 (omega (arith, m .plan-size)) ∙ sym (refer-some (index x (namesFrom [] xs)) i q));
+            (λ _. getD-set-same plan (length xs) i 0 (omega (arith, m .plan-size, m .wide)) ∙ sym (refer-some (index x (namesFrom [] xs)) i q));
       }
     where
       same-names : namesFrom [] (xs ++ (x ∷ [])) ≡ namesFrom [] xs
@@ -114,8 +116,8 @@ module _ {a b es links plan : List ℕ} {xs : List Item} {count size : ℕ} (m :
   -- a name that gets one
   pub measure-fresh : (es′ links′ plan′ : List ℕ) (e n : ℕ) → isName x ≡ true → index x (namesFrom [] xs) ≡ none → utf8 (x .content) ≡ true → n ≡ length (full x)
       → Chained a b es′ links′ (count + 1) → es′ ≡ set es count e → nameIn a b e ≡ x
-      → length plan′ ≡ 1533 → ((j : ℕ) → j < length xs → getD plan′ j 0 ≡ getD plan j 0) → getD plan′ (length xs) 0 ≡ 256
-      → Measured a b es′ links′ plan′ (xs ++ (x ∷ [])) (count + 1) (size + n)
+      → length plan′ ≡ slots → ((j : ℕ) → j < length xs → getD plan′ j 0 ≡ getD plan j 0) → getD plan′ (length xs) 0 ≡ 256
+      → Measured slots a b es′ links′ plan′ (xs ++ (x ∷ [])) (count + 1) (size + n)
   measure-fresh es′ links′ plan′ e n p q u f ch ee en pl old new =
       record {
         table = ch;
@@ -123,6 +125,7 @@ module _ {a b es links plan : List ℕ} {xs : List Item} {count size : ℕ} (m :
         texts = λ i y h. ⊎-elim (m .texts i y) (λ (w : (i ≡ length (namesFrom [] xs)) × (x ≡ y)). rw (w .1) at u) (at-snoc (namesFrom [] xs) x i (rw more-names at h));
         length-is = length-more xs x size n (m .length-is) (f ∙ ap length (sym (encoded-fresh (namesFrom [] xs) x q)));
         plan-size = pl;
+        wide = m .wide;
         planned = planned-more xs x plan plan′ (m .planned) lt old (λ _. new ∙ sym (refer-none (index x (namesFrom [] xs)) q));
       }
     where
@@ -130,7 +133,7 @@ module _ {a b es links plan : List ℕ} {xs : List Item} {count size : ℕ} (m :
       more-names = names-more xs x ∙ noted-fresh x (namesFrom [] xs) p q
 
 -- A name that stands in the table is text.
-pub known-text : {a b es links plan : List ℕ} {xs : List Item} {count size : ℕ} → Measured a b es links plan xs count size → (x : Item) (i : ℕ) → index x (namesFrom [] xs) ≡ some i → utf8 (x .content) ≡ true
+pub known-text : {slots : ℕ} {a b es links plan : List ℕ} {xs : List Item} {count size : ℕ} → Measured slots a b es links plan xs count size → (x : Item) (i : ℕ) → index x (namesFrom [] xs) ≡ some i → utf8 (x .content) ≡ true
 unfolding sameName
 known-text {xs = xs} m x i e =
     let w = index-at x (namesFrom [] xs) e in

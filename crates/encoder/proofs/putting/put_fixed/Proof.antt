@@ -1,14 +1,14 @@
--- `writer::putting::put_fixed` meets its contract, kind by kind. Assumes nothing.
+-- `encoder::putting::put_fixed` meets its contract, kind by kind. Assumes nothing.
 use mathlib.Core.List.{[]}
 use mathlib.Core.Path.{refl}
 use native.Mathlib.Omega.{arith}
 use lib.ListN.{length-set}
 use Rattle.format.proofs.Headers.{following-single, following-double, following-small}
-use Rattle.writer.proofs.RowLaws.{length-fixed}
-use Rattle.writer.proofs.OutputLaws.{fixed-fits, fixed-wrote, fixed-puts, lead-puts}
+use Rattle.encoder.proofs.Lengths.{length-fixed}
+use Rattle.encoder.proofs.OutputLaws.{fixed-fits, fixed-wrote, fixed-puts, lead-puts}
 use borrow.Author.Needs.{needs}
-use Rattle.writer.proofs.putting.put_fixed.Statement.{statement}
-use Rattle.writer.proofs.putting.put_fixed.Tie as tie
+use Rattle.encoder.proofs.putting.put_fixed.Statement.{statement}
+use Rattle.encoder.proofs.putting.put_fixed.Tie as tie
 
 slice-write-out : tie.Need-slice-write-out
 slice-write-out c =

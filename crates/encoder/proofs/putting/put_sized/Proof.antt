@@ -1,12 +1,12 @@
--- `writer::putting::put_sized` meets its contract: the header, and the content after it. Assumes nothing.
+-- `encoder::putting::put_sized` meets its contract: the header, and the content after it. Assumes nothing.
 use mathlib.Core.List.{[]}
 use native.Mathlib.Omega.{arith}
 use lib.ListN.{length-append}
 use Rattle.format.specs.Header.{header}
 use Rattle.wire.proofs.Wrote.{finish-all, both-start, both-fits, both-wrote}
 use borrow.Author.Needs.{needs}
-use Rattle.writer.proofs.putting.put_sized.Statement.{statement}
-use Rattle.writer.proofs.putting.put_sized.Tie as tie
+use Rattle.encoder.proofs.putting.put_sized.Statement.{statement}
+use Rattle.encoder.proofs.putting.put_sized.Tie as tie
 
 put-header-requires : tie.Need-put-header-requires
 put-header-requires c κs =

@@ -24,34 +24,26 @@ unfoldable pub referTo : Option ℕ → ℕ
 referTo none = 256
 referTo (some i) = i
 
--- An item by its reference.
-unfoldable pub encodedBy : ℕ → Item → List ℕ
-encodedBy r x = pick (ltb r 256) (header 7 r) (full x)
+-- A name by such a reference, where bs is the name in full.
+unfoldable pub referring : ℕ → List ℕ → List ℕ
+referring r bs = pick (ltb r 256) (header 7 r) bs
 
--- An item at a row, by the plan.
+-- Item i, by the plan.
 unfoldable pub encodedAt : List ℕ → ℕ → Item → List ℕ
-encodedAt plan i x = pick (isName x) (encodedBy (getD plan i 0) x) (full x)
+encodedAt plan i x = pick (isName x) (referring (getD plan i 0) (full x)) (full x)
 
 -- The plan has the reference of each name.
 pub record Planned (plan : List ℕ) (xs : List Item) : Type 0 where
   pub long : length xs ≤ 1024
   pub refers : (j : ℕ) (x : Item) → getElem? xs j ≡ some x → isName x ≡ true → getD plan j 0 ≡ referTo (index x (namesFrom [] (take j xs)))
 
--- The items xs are measured: their names are the first entries of a table over the slices a and b.
-pub record Measured (a b es links plan : List ℕ) (xs : List Item) (count size : ℕ) : Type 0 where
+-- The items xs are measured: their names are the first entries of a table over the slices a and b. The plan is an array of so many slots.
+pub record Measured (slots : ℕ) (a b es links plan : List ℕ) (xs : List Item) (count size : ℕ) : Type 0 where
   pub table : Chained a b es links count
   pub names : namesIn a b (take count es) ≡ namesFrom [] xs
   -- so that a name that stands in the table need not be looked at again
   pub texts : (i : ℕ) (x : Item) → getElem? (namesFrom [] xs) i ≡ some x → utf8 (x .content) ≡ true
   pub length-is : size ≡ length (canonical xs)
-  pub plan-size : length plan ≡ 1533
+  pub plan-size : length plan ≡ slots
+  pub wide : 1024 ≤ slots
   pub planned : Planned plan xs
-
--- Rows over a text that can be written as they were planned.
-pub record Putting (text plan : List ℕ) (rs : List Row) (capacity : ℕ) : Type 0 where
-  pub long : length plan ≡ 1533
-  pub short : 0 < length rs → length text ≤ 16384
-  pub fine : All (λ (r : Row). isBad text r ≡ false) rs
-  pub planned : Planned plan (itemsAt text rs)
-  pub few : length (namesFrom [] (itemsAt text rs)) ≤ 256
-  pub fits : length (canonical (itemsAt text rs)) ≤ capacity

@@ -1,0 +1,2 @@
+// The canonical encoding of one item after another: what writing and joining have in common.
+pub mod putting;
