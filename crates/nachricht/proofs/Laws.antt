@@ -3,8 +3,7 @@ use mathlib.Core.Path.{_≡_, sym, ap, _∙_}
 use Prim.Native.Nat.{ℕ}
 use native.Mathlib.Omega.{arith}
 use mathlib.Core.List.{List, map}
-use lib.ListN.{length, take, drop, length-map}
-use lib.Seq.{take-at, drop-at}
+use lib.ListN.{length, take, length-map}
 use Rattle.format.specs.declared.bundle.Bundle.{Bundle}
 use Rattle.format.specs.declared.error.Mode.{Mode}
 use Rattle.format.specs.declared.row.Row.{Row}
@@ -15,6 +14,7 @@ use Rattle.format.specs.Writing.{writing}
 use Rattle.format.proofs.Tests.{failed-good, good-inj}
 use Rattle.format.proofs.Lists.{length-items}
 use Rattle.format.proofs.Steps.{then-good}
+use Rattle.format.proofs.Stored.{Stored, stored-counted, stored-good}
 use Rattle.format.proofs.ReadBack.{read-back}
 use Rattle.format.proofs.Rows.{rows-mean}
 use Rattle.format.proofs.Writes.{writing-written}
@@ -27,23 +27,9 @@ use Rattle.nachricht.specs.Laws.{Read, RewritesCanonically, WrittenReads
 
 -- ---- what a good answer leaves
 
--- A buffer that holds a result of n elements first, and then what stood there.
-record Stored {A : Type 0} (old new xs : List A) (n : ℕ) : Type 0 where
-  front : take n new ≡ xs
-  rest : drop n new ≡ drop n old
-
-stored-good : {A : Type 0} {old new xs : List A} {r : Answer (List A)} {n : ℕ} → new ≡ stored old r → r ≡ good xs → length xs ≡ n → Stored old new xs n
-unfolding stored
-stored-good {old = old} {xs = xs} {n = n} q e l =
-    let k = q ∙ ap (stored old) e in
-    record { front = rw k (take-at xs _ n l); rest = rw k (drop-at xs _ n l ∙ ap (λ (m : ℕ). drop m old) l) }
-
 -- What was written is the front of the buffer.
 wrote-done : {rs : List Row} {text old new : List ℕ} {n : ℕ} → Wrote rs text old (Done n) new → writing rs text (length old) ≡ good (take n new)
-unfolding counted
-wrote-done {rs} {text} {old} p =
-    let (bs, e, k) = then-good (writing rs text (length old)) _ (sym (p .answer)) in
-    e ∙ ap good (sym (stored-good (p .buffer) e (good-inj k) .front))
+wrote-done {old = old} p = stored-counted old _ (p .buffer) (sym (p .answer)) .0
 
 checked-good : (r : Checked) {b : Bundle} → answerOf r ≡ good b → r ≡ Good b
 unfolding fail
