@@ -1,0 +1,2 @@
+-- The laws of joining.
+pub mod Laws

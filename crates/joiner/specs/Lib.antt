@@ -1,0 +1,3 @@
+-- What the answers of the joiner mean, and the laws of joining.
+pub mod Answers
+pub mod Laws

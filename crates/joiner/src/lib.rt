@@ -1,0 +1,4 @@
+// The joiner: two bundles to one.
+mod joining;
+
+pub use joining::Joined;
