@@ -204,7 +204,7 @@ module _ (o : Options) (s : State) (whole : List ℕ) where
 
 -- ---- `run` is good exactly where its steps are
 
-ending-good : {s u : State} → ending s ≡ good u → (due (s .place) ≡ false) × (s ≡ u)
+pub ending-good : {s u : State} → ending s ≡ good u → (due (s .place) ≡ false) × (s ≡ u)
 unfolding ending fail
 ending-good {s} {u} e = cases (due (s .place)) (λ d. failed-good (sym (pick-yes _ _ d) ∙ e)) (λ d. (d, good-inj (sym (pick-no _ _ d) ∙ e)))
 

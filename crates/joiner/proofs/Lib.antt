@@ -1,2 +1,7 @@
--- The laws of joining.
+-- Laws of the joiner.
+pub mod MapLaws
+pub mod Turns
+pub mod Arms
+pub mod MeasureSteps
+pub mod MeasureLoop
 pub mod Laws

@@ -1,4 +1,6 @@
-// The joiner: two bundles to one.
+// The joiner: two bundles to one, and one bundle to its canonical encoding.
+mod item;
 mod joining;
+mod measuring;
 
 pub use joining::Joined;

@@ -1,0 +1,26 @@
+-- An item of a bundle that reads, by its header and what stands after it.
+use Prim.Native.Nat.{ℕ, _-_, _^_, min}
+use mathlib.Core.List.{List, [], _++_}
+use lib.Dec.{leb, ltb, eqb}
+use lib.ListN.{take, drop}
+use Rattle.format.specs.Choice.{pick, _&&_}
+use Rattle.format.specs.declared.header.Header.{Header}
+use Rattle.format.specs.Header.{header}
+use Rattle.format.specs.Canonical.{full}
+use Rattle.encoder.specs.Plan.{referring}
+
+-- The number of an integer or a container.
+unfoldable pub numberOf : ℕ → ℕ → ℕ
+numberOf code p = pick (eqb code 2) (min p (2 ^ 64 - 2)) p
+
+-- A header in its shortest form and the content, which begins at next.
+unfoldable pub sized : List ℕ → ℕ → Header → List ℕ
+sized s next h = header (h .code) (h .payload) ++ take (h .payload) (drop next s)
+
+-- An item as it is written, where refer is how a name is written.
+unfoldable pub rewritten : List ℕ → ℕ → ℕ → Header → List ℕ
+rewritten s refer next h =
+    pick (leb 1 (h .code) && leb (h .code) 3) (header (h .code) (numberOf (h .code) (h .payload)))
+    (pick (leb 7 (h .code)) (header 7 refer)
+    (pick (leb 5 (h .code)) (referring refer (sized s next h))
+    (pick (eqb (h .code) 0 && ltb (h .sz) 5) (full (record { kind = h .sz; number = h .payload; content = [] })) (sized s next h))))

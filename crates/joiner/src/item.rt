@@ -1,0 +1,28 @@
+// What the header of an item in a bundle that reads says of it.
+ghost use mathlib.Core.Path.{_≡_};
+ghost use lib.Dec.{leb};
+ghost use Rattle.format.specs.Choice.{_&&_};
+ghost use Rattle.joiner.specs.Items.{numberOf};
+
+// An integer or a container?
+pub fn is_number(code: u8) -> bool
+    ensures { λ r. ⌜ r ≡ (leb 1 code && leb code 3) ⌝ }
+{
+    if code < 1 {
+        return false;
+    }
+    code <= 3
+}
+
+// The number of an integer or a container: the negative alias stands for the least integer.
+pub fn number_of(code: u8, p: u64) -> u64
+    ensures { λ r. ⌜ r ≡ numberOf code p ⌝ }
+{
+    // the payload first: signs of integers cannot be foretold
+    if p == 18446744073709551615 {
+        if code == 2 {
+            return 18446744073709551614;
+        }
+    }
+    p
+}
