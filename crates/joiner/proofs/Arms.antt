@@ -4,10 +4,10 @@ use mathlib.Core.Logic.{_≢_}
 use mathlib.Core.Bool.{true, false, not}
 use mathlib.Core.List.{List, [], _∷_, _++_, append-nil}
 use mathlib.Core.Option.{some}
-use Prim.Native.Nat.{ℕ, _+_, _-_, _/_, _%_, _≤_, _<_}
+use Prim.Native.Nat.{ℕ, _+_, _-_, _/_, _%_, _≤_, _<_, suc}
 use native.Mathlib.Nat.{add-zero}
 use native.Mathlib.Omega.{arith}
-use lib.Dec.{leb, ltb}
+use lib.Dec.{leb, ltb, eqb}
 use lib.ListN.{length, take, drop, getElem?, length-append, length-drop}
 use lib.Seq.{length-take-le}
 use Rattle.format.specs.declared.header.Header.{Header}
@@ -17,7 +17,7 @@ use Rattle.format.specs.Item.{Item, isName, isText}
 use Rattle.format.specs.Utf8.{utf8}
 use Rattle.format.specs.Reading.{Found, State, Form, fixed, content, reference, formOf, isContent, itemOf, after}
 use Rattle.format.specs.Canonical.{full}
-use Rattle.format.proofs.Tests.{clash, equal, order, eqb-yes, eqb-no, leb-true, leb-false, leb-yes, leb-no, ltb-false, ltb-yes, ltb-no, and-true, and-right, and-no-left, and-no-right, and-yes, not-false, pick-yes, pick-no, some-inj, none-some}
+use Rattle.format.proofs.Tests.{clash, equal, order, eqb-yes, eqb-no, eqb-true, leb-true, leb-false, leb-yes, leb-no, ltb-false, ltb-yes, ltb-no, and-true, and-right, and-no-left, and-no-right, and-yes, not-false, pick-yes, pick-no, some-inj, none-some}
 use Rattle.format.proofs.Headers.{following-small}
 use Rattle.format.proofs.Encoding.{full-other, no-name}
 use Rattle.format.proofs.Names.{item-path}
@@ -31,20 +31,20 @@ use Rattle.joiner.proofs.Turns.{Turn}
 pub number-code : (c : ℕ) → leb 1 c && leb c 3 ≡ true → (1 ≤ c) × (c ≤ 3)
 number-code c e = let (l, u) = and-true (leb 1 c) (leb c 3) e in (leb-true 1 c l, leb-true c 3 u)
 
-pub zero-code : (c : ℕ) → leb 1 c && leb c 3 ≡ false → c < 4 → c ≡ 0
-zero-code c e l = equal c 0 (λ z. z) (λ n. clash (and-yes (leb-yes {a = 1} {b = c} (omega arith)) (leb-yes {a = c} {b = 3} (omega arith))) e)
+pub fixed-code : (c z : ℕ) → eqb c 0 && ltb z 5 ≡ true → (c ≡ 0) × (z < 5)
+fixed-code c z e = let (l, u) = and-true (eqb c 0) (ltb z 5) e in (eqb-true c 0 l, leb-true (suc z) 5 u)
 
 -- ---- forms
 
 module _ (h : Header) where
-  form-number : 1 ≤ h .code → h .code ≤ 3 → formOf h ≡ fixed (h .code + 5) (numberOf (h .code) (h .payload))
+  pub form-number : 1 ≤ h .code → h .code ≤ 3 → formOf h ≡ fixed (h .code + 5) (numberOf (h .code) (h .payload))
   unfolding formOf numberOf pick
   form-number l u =
       equal (h .code) 1 (λ e. rw e)
       (λ n. equal (h .code) 2 (λ e. rw e)
       (λ m. let e : h .code ≡ 3 = omega arith in rw e))
 
-  form-fixed : h .code ≡ 0 → h .sz < 5 → formOf h ≡ fixed (h .sz) (pick (ltb (h .sz) 3) 0 (h .payload))
+  pub form-fixed : h .code ≡ 0 → h .sz < 5 → formOf h ≡ fixed (h .sz) (pick (ltb (h .sz) 3) 0 (h .payload))
   unfolding formOf pick
   form-fixed e l =
       order 3 (h .sz)
@@ -56,11 +56,19 @@ module _ (h : Header) where
   form-coded l u =
       rw (eqb-no {a = h .code} {b = 0} (omega arith), eqb-no {a = h .code} {b = 1} (omega arith), eqb-no {a = h .code} {b = 2} (omega arith), eqb-no {a = h .code} {b = 3} (omega arith), ltb-yes {a = h .code} {b = 7} (omega arith))
 
-  pub form-bytes : h .code ≡ 0 → 5 ≤ h .sz → formOf h ≡ content (h .code + 5)
+  form-bytes : h .code ≡ 0 → 5 ≤ h .sz → formOf h ≡ content (h .code + 5)
   unfolding formOf pick
   form-bytes e l = rw (e, ltb-no {a = h .sz} {b = 3} (omega arith), ltb-no {a = h .sz} {b = 5} l)
 
-  form-reference : 7 ≤ h .code → formOf h ≡ reference
+  -- no number, no fixed type and no reference: content follows
+  pub form-held : leb 1 (h .code) && leb (h .code) 3 ≡ false → eqb (h .code) 0 && ltb (h .sz) 5 ≡ false → h .code < 7 → formOf h ≡ content (h .code + 5)
+  form-held n f l =
+      order 4 (h .code) (λ g. form-coded g (omega arith))
+      (λ g. equal (h .code) 0
+      (λ z. form-bytes z (ltb-false _ _ (and-right (eqb-yes z) f)))
+      (λ z. clash (and-yes (leb-yes {a = 1} {b = h .code} (omega arith)) (leb-yes {a = h .code} {b = 3} (omega arith))) n))
+
+  pub form-reference : 7 ≤ h .code → formOf h ≡ reference
   unfolding formOf pick
   form-reference l =
       rw (eqb-no {a = h .code} {b = 0} (omega arith), eqb-no {a = h .code} {b = 1} (omega arith), eqb-no {a = h .code} {b = 2} (omega arith), eqb-no {a = h .code} {b = 3} (omega arith), ltb-no {a = h .code} {b = 7} l)

@@ -2,6 +2,7 @@
 pub mod MapLaws
 pub mod Turns
 pub mod Arms
+pub mod Rewritten
 pub mod MeasureSteps
 pub mod MeasureLoop
 pub mod Laws

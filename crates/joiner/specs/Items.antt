@@ -1,11 +1,14 @@
 -- An item of a bundle that reads, by its header and what stands after it.
-use Prim.Native.Nat.{ℕ, _-_, _^_, min}
+use Prim.Native.Nat.{ℕ, _+_, _-_, _^_, _≤_, min}
+use mathlib.Core.Path.{_≡_}
+use mathlib.Core.Bool.{true}
 use mathlib.Core.List.{List, [], _++_}
 use lib.Dec.{leb, ltb, eqb}
-use lib.ListN.{take, drop}
+use lib.ListN.{length, take, drop}
 use Rattle.format.specs.Choice.{pick, _&&_}
 use Rattle.format.specs.declared.header.Header.{Header}
 use Rattle.format.specs.Header.{header}
+use Rattle.format.specs.Reading.{formOf, isContent}
 use Rattle.format.specs.Canonical.{full}
 use Rattle.encoder.specs.Plan.{referring}
 
@@ -22,5 +25,13 @@ unfoldable pub rewritten : List ℕ → ℕ → ℕ → Header → List ℕ
 rewritten s refer next h =
     pick (leb 1 (h .code) && leb (h .code) 3) (header (h .code) (numberOf (h .code) (h .payload)))
     (pick (leb 7 (h .code)) (header 7 refer)
-    (pick (leb 5 (h .code)) (referring refer (sized s next h))
-    (pick (eqb (h .code) 0 && ltb (h .sz) 5) (full (record { kind = h .sz; number = h .payload; content = [] })) (sized s next h))))
+    (pick (eqb (h .code) 0 && ltb (h .sz) 5) (full (record { kind = h .sz; number = h .payload; content = [] }))
+    (pick (leb 5 (h .code)) (referring refer (sized s next h)) (sized s next h))))
+
+-- The bytes of content after a header.
+abbrev pub contentLength : Header → ℕ
+contentLength h = pick (isContent (formOf h)) (h .payload) 0
+
+-- The content that a header announces is there.
+pub record Whole (s : List ℕ) (next : ℕ) (h : Header) : Type 0 where
+  pub within : isContent (formOf h) ≡ true → next + h .payload ≤ length s

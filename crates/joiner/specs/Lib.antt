@@ -2,4 +2,5 @@
 pub mod Answers
 pub mod Items
 pub mod Measuring
+pub mod Putting
 pub mod Laws

@@ -1,6 +1,6 @@
 // What the header of an item in a bundle that reads says of it.
 ghost use mathlib.Core.Path.{_≡_};
-ghost use lib.Dec.{leb};
+ghost use lib.Dec.{leb, ltb, eqb};
 ghost use Rattle.format.specs.Choice.{_&&_};
 ghost use Rattle.joiner.specs.Items.{numberOf};
 
@@ -12,6 +12,16 @@ pub fn is_number(code: u8) -> bool
         return false;
     }
     code <= 3
+}
+
+// Null, true, false or a float?
+pub fn is_fixed(code: u8, sz: u8) -> bool
+    ensures { λ r. ⌜ r ≡ (eqb code 0 && ltb sz 5) ⌝ }
+{
+    if code != 0 {
+        return false;
+    }
+    sz < 5
 }
 
 // The number of an integer or a container: the negative alias stands for the least integer.

@@ -2,5 +2,6 @@
 mod item;
 mod joining;
 mod measuring;
+mod putting;
 
 pub use joining::Joined;

@@ -8,6 +8,7 @@ ghost use Rattle.format.specs.Header.{header, headerOf};
 ghost use Rattle.format.specs.Item.{Item};
 ghost use Rattle.format.specs.Reading.{State};
 ghost use Rattle.joiner.specs.Measuring.{tallied, Bundled, Partway, Onward, Here, Begun, Ready, Measures};
+use crate::item::is_fixed;
 use crate::item::is_number;
 use crate::item::number_of;
 use encoder::putting::Reference;
@@ -184,10 +185,7 @@ fn headed<'a>(
     if 5 <= code {
         return name(first, second, s, side, entries, links, to, plan, t, h);
     }
-    if code == 4 {
-        return held(t, next, code, p);
-    }
-    if h.sz < 5 {
+    if is_fixed(code, h.sz) {
         return after(t, next, t.entries, t.names, h.size);
     }
     held(t, next, code, p)
