@@ -48,10 +48,10 @@ encoded-plan plan xs ys x p l =
 
 -- ---- items in their order
 
-names-fewer : (xs ys : List Item) → length (namesFrom [] (xs ++ ys)) ≤ 256 → length (namesFrom [] xs) ≤ 256
+pub names-fewer : (xs ys : List Item) → length (namesFrom [] (xs ++ ys)) ≤ 256 → length (namesFrom [] xs) ≤ 256
 names-fewer xs ys l = le-trans (names-longer (namesFrom [] xs) ys) (rw (← names-append [] xs ys) l)
 
-canonical-within : (xs ys : List Item) → length (canonical xs) ≤ length (canonical (xs ++ ys))
+pub canonical-within : (xs ys : List Item) → length (canonical xs) ≤ length (canonical (xs ++ ys))
 unfolding canonical
 canonical-within xs ys = rw (canonical-append [] xs ys, length-append (canonicalFrom [] xs)) (omega arith)
 

@@ -5,4 +5,6 @@ pub mod Arms
 pub mod Rewritten
 pub mod MeasureSteps
 pub mod MeasureLoop
+pub mod PutSteps
+pub mod PutLoop
 pub mod Laws

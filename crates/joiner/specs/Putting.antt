@@ -52,7 +52,6 @@ pub record Here (s plan new : List ℕ) (w : Spot) : Type 0 where
   pub old : List ℕ
   pub planning : Planning s zs ws u plan (length old)
   pub putting : Putting s zs u old new w
-  pub kept : length new ≡ length old
 
 pub record Ready (s plan new : List ℕ) (w : Spot) : Type 0 where
   pub zs : List Item
@@ -61,4 +60,3 @@ pub record Ready (s plan new : List ℕ) (w : Spot) : Type 0 where
   pub old : List ℕ
   pub planning : Planning s zs ws u plan (length old)
   pub put : Put zs old new w
-  pub kept : length new ≡ length old

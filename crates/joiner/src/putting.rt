@@ -1,12 +1,12 @@
 // The second pass over a bundle: each item in its canonical form, at the start of what is left of the buffer.
 ghost use mathlib.Core.Path.{_≡_};
-ghost use mathlib.Core.List.{List};
+ghost use mathlib.Core.List.{List, _++_};
 ghost use mathlib.Core.Option.{some};
 ghost use Prim.Native.Nat.{ℕ, _+_, _≤_, _<_};
 ghost use lib.ListN.{length, drop};
 ghost use Rattle.format.specs.Header.{headerOf};
 ghost use Rattle.format.specs.Item.{Item};
-ghost use Rattle.format.specs.Reading.{State};
+ghost use Rattle.format.specs.Reading.{State, itemsOf};
 ghost use Rattle.encoder.specs.Output.{Puts};
 ghost use Rattle.joiner.specs.Items.{rewritten, contentLength, Whole};
 ghost use Rattle.joiner.specs.Putting.{Planning, Putting, Onward, Here, Ready, Put};
@@ -72,4 +72,56 @@ fn put_item(out: &mut [u8], s: &[u8], refer: u16, next: usize, h: Header) -> Ste
         at: e,
         len: put_sized(out, code, p, &s[next..e]),
     }
+}
+
+// The item of a header, at an offset of the buffer.
+fn put_next(
+    out: &mut [u8],
+    s: &[u8],
+    plan: &[u16; Row::MAX_COUNT],
+    w: Spot,
+    h: Header,
+) -> Spot
+    requires { ⌜ Here (now s) (now plan) (now out) w × (some h ≡ headerOf (drop (w .at) (now s))) ⌝ }
+    ensures { λ r. ⌜ ((zs ws : List Item) (u : State) (old : List ℕ) → Planning (now (s .entry)) zs ws u (now (plan .entry)) (length old) → Putting (now (s .entry)) zs u old (now (out .entry)) w
+        → Onward (now (s .entry)) zs u old (now (out .exit)) w r) ⌝ }
+{
+    let o = w.out;
+    let row = w.row;
+    let r = put_item(&mut out[o..], s, plan[row], w.at + h.size, h);
+    Spot {
+        at: r.at,
+        row: row + 1,
+        out: o + r.len,
+    }
+}
+
+// The next item.
+fn item(out: &mut [u8], s: &[u8], plan: &[u16; Row::MAX_COUNT], w: Spot) -> Spot
+    requires { ⌜ Here (now s) (now plan) (now out) w × (w .at < length (now s)) ⌝ }
+    ensures { λ r. ⌜ ((zs ws : List Item) (u : State) (old : List ℕ) → Planning (now (s .entry)) zs ws u (now (plan .entry)) (length old) → Putting (now (s .entry)) zs u old (now (out .entry)) w
+        → Onward (now (s .entry)) zs u old (now (out .exit)) w r) ⌝ }
+{
+    match header_at(s, w.at) {
+        // not in a bundle that reads
+        Head::Cut => w,
+        Head::Whole(h) => put_next(out, s, plan, w, h),
+    }
+}
+
+// Writes a bundle after what comes before it.
+pub fn put(out: &mut [u8], s: &[u8], plan: &[u16; Row::MAX_COUNT], from: Spot) -> Spot
+    requires { ⌜ Ready (now s) (now plan) (now out) from ⌝ }
+    ensures { λ r. ⌜ ((zs ws : List Item) (u : State) (old : List ℕ) → Planning (now (s .entry)) zs ws u (now (plan .entry)) (length old) → Put zs old (now (out .entry)) from
+        → Put (zs ++ itemsOf (u .found)) old (now (out .exit)) r) ⌝ }
+{
+    let mut w = Spot {
+        at: 0,
+        row: from.row,
+        out: from.out,
+    };
+    while w.at < s.len() {
+        w = item(out, s, plan, w);
+    }
+    w
 }
