@@ -4,22 +4,23 @@ use mathlib.Core.Logic.{_⊎_, ⊎-elim}
 use mathlib.Core.Bool.{true, false}
 use mathlib.Core.List.{List, [], _∷_, _++_, map, append-nil}
 use mathlib.Core.Option.{Option, none, some}
-use Prim.Native.Nat.{ℕ, _+_, _-_, _<_}
+use Prim.Native.Nat.{ℕ, _+_, _-_, _≤_, _<_, zero-le}
 use native.Mathlib.Numerals.{add-one}
 use native.Mathlib.Omega.{arith}
-use lib.ListN.{length, take, getD, set, getElem?, length-set, length-append}
+use lib.ListN.{length, take, getD, set, getElem?, replicate, length-set, length-append, length-replicate}
 use lib.Seq.{getD-set-same, getD-set-other, take-append-le, take-append-seam, take-suc-set}
 use Rattle.format.specs.Header.{header}
 use Rattle.format.specs.Item.{Item, isName}
 use Rattle.format.specs.Names.{sameName, index, noted, namesFrom}
 use Rattle.format.specs.Utf8.{utf8}
 use Rattle.format.specs.Canonical.{full, named, encoded, canonical, canonicalFrom}
-use Rattle.format.proofs.Tests.{cases, clash, and-true, pick-yes, pick-no}
+use Rattle.format.proofs.Tests.{cases, clash, and-true, none-some, pick-yes, pick-no}
 use Rattle.format.proofs.Lists.{map-append}
 use Rattle.format.proofs.Names.{names-append, canonical-append, noted-plain, noted-known, noted-fresh, index-at, at-snoc, same-true}
 use Rattle.format.proofs.Encoding.{at-lt}
 use Rattle.symbols.specs.Entry.{nameIn, namesIn}
 use Rattle.symbols.specs.Chains.{Chained}
+use Rattle.symbols.proofs.ChainLaws.{chain-start}
 use Rattle.encoder.specs.Plan.{referTo, Planned, Measured}
 
 module _ (xs : List Item) (x : Item) where
@@ -76,6 +77,21 @@ names-set : (a b es : List ℕ) (count e : ℕ) → count < length es → namesI
 unfolding namesIn
 names-set a b es count e l =
     ap (λ (n : ℕ). map (nameIn a b) (take n (set es count e))) (add-one count) ∙ ap (map (nameIn a b)) (take-suc-set es count e l) ∙ map-append (nameIn a b) (take count es) (e ∷ [])
+
+-- ---- before the first item
+
+pub measured-none : {slots : ℕ} (a b plan : List ℕ) → length plan ≡ slots → 1024 ≤ slots → Measured slots a b (replicate 256 0) (replicate 768 0) plan [] 0 0
+unfolding namesFrom canonical canonicalFrom namesIn
+measured-none a b plan long wide =
+    record {
+      table = chain-start a b (replicate 256 0) (replicate 768 0) (length-replicate {A = ℕ} 256 0) refl;
+      names = refl;
+      texts = λ i x e. none-some e;
+      length-is = refl;
+      plan-size = long;
+      wide = wide;
+      planned = record { long = zero-le; refers = λ j x e. none-some e };
+    }
 
 -- ---- one item more
 

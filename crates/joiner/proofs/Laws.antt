@@ -16,8 +16,8 @@ use Rattle.format.proofs.Errors.{error-law}
 use Rattle.format.proofs.Fitting.{fitted-fits, fitted-over}
 use Rattle.format.proofs.Stored.{stored-counted, stored-failed}
 use Rattle.format.proofs.Laws as definition
-use Rattle.joiner.specs.declared.joining.Joined.{Joined}
-use Rattle.joiner.specs.declared.joining.Joined.the-variants.{Done, Failed}
+use Rattle.joiner.specs.declared.merging.Joined.{Joined}
+use Rattle.joiner.specs.declared.merging.Joined.the-variants.{Done, Failed}
 use Rattle.joiner.specs.Answers.{answerOf}
 use Rattle.joiner.specs.Laws.{Demand3, Joins, OfThree, OfTwo, Refused, Way, Yields, error, left-first, right-first}
 

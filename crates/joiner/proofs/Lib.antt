@@ -7,4 +7,5 @@ pub mod MeasureSteps
 pub mod MeasureLoop
 pub mod PutSteps
 pub mod PutLoop
+pub mod MergeLaws
 pub mod Laws

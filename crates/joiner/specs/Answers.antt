@@ -2,8 +2,8 @@
 use Prim.Native.Nat.{ℕ}
 use Rattle.format.specs.Error.{codeOf}
 use Rattle.format.specs.Answer.{Answer, failed, good}
-use Rattle.joiner.specs.declared.joining.Joined.{Joined}
-use Rattle.joiner.specs.declared.joining.Joined.the-variants.{Done, Failed}
+use Rattle.joiner.specs.declared.merging.Joined.{Joined}
+use Rattle.joiner.specs.declared.merging.Joined.the-variants.{Done, Failed}
 
 abbrev pub answerOf : Joined → Answer ℕ
 answerOf (Done n) = good n

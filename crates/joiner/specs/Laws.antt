@@ -16,8 +16,8 @@ use Rattle.format.specs.Canonical.{canonical}
 use Rattle.format.specs.Writing.{fitted}
 use Rattle.format.specs.Joining.{joining}
 use Rattle.format.specs.Laws.{Exceeds, Means}
-use Rattle.joiner.specs.declared.joining.Joined.{Joined}
-use Rattle.joiner.specs.declared.joining.Joined.the-variants.{Done, Failed}
+use Rattle.joiner.specs.declared.merging.Joined.{Joined}
+use Rattle.joiner.specs.declared.merging.Joined.the-variants.{Done, Failed}
 use Rattle.joiner.specs.Answers.{answerOf}
 
 -- ---- what the function promises

@@ -3,4 +3,5 @@ pub mod Answers
 pub mod Items
 pub mod Measuring
 pub mod Putting
+pub mod Merging
 pub mod Laws

@@ -8,13 +8,11 @@ use lib.ListN.{length, take, drop, getD, replicate, length-replicate, take-appen
 use lib.Seq.{take-suc, take-take}
 use Rattle.format.specs.declared.row.Row.{Row}
 use Rattle.format.specs.Names.{namesFrom}
-use Rattle.format.specs.Canonical.{canonical, canonicalFrom}
 use Rattle.format.specs.Place.{top}
 use Rattle.format.specs.Writing.{begin, judge}
-use Rattle.format.proofs.Tests.{equal, none-some}
-use Rattle.symbols.specs.Entry.{namesIn}
+use Rattle.format.proofs.Tests.{equal}
 use Rattle.symbols.specs.Chains.{Chained}
-use Rattle.symbols.proofs.ChainLaws.{chain-start}
+use Rattle.encoder.proofs.MeasureLaws.{measured-none}
 use Rattle.writer.specs.declared.state.State.{State}
 use Rattle.writer.specs.Stack.{bottom, openedOf}
 use Rattle.writer.specs.Steps.{begun}
@@ -24,7 +22,7 @@ use Rattle.writer.specs.Judging.{After, Ready, Next, Judging, Verdict}
 module _ (text : List ℕ) (rs : List Row) (n : ℕ) where
   -- before the first row
   none : (plan : List ℕ) → length plan ≡ 1533 → After text (replicate 256 0) (replicate 768 0) (replicate 32 0) plan [] (begun n)
-  unfolding begun begin top bottom openedOf namesFrom canonical canonicalFrom namesIn
+  unfolding begun begin top bottom openedOf namesFrom
   none plan long =
       record {
         progress = begin;
@@ -36,15 +34,7 @@ module _ (text : List ℕ) (rs : List Row) (n : ℕ) where
         rows = refl;
         small = zero-le;
         stands = record { size = length-replicate {A = ℕ} 32 0; deep = zero-le; high = omega arith; opened = refl; key = refl };
-        measured = record {
-          table = chain-start text text (replicate 256 0) (replicate 768 0) (length-replicate {A = ℕ} 256 0) refl;
-          names = refl;
-          texts = λ i x e. none-some e;
-          length-is = refl;
-          plan-size = long;
-          wide = omega arith;
-          planned = record { long = zero-le; refers = λ j x e. none-some e };
-        };
+        measured = measured-none text text plan long (omega arith);
       }
 
   pub judging-start : (plan : List ℕ) → length plan ≡ 1533 → Judging text rs n (replicate 256 0) (replicate 768 0) (replicate 32 0) plan (begun n)

@@ -1,0 +1,148 @@
+-- Two bundles that read, measured one after the other and then written: what each way out means. Assumes nothing.
+use mathlib.Core.Path.{_≡_, refl, sym, ap, _∙_}
+use mathlib.Core.Bool.{true, false}
+use mathlib.Core.List.{List, [], _++_, append-nil}
+use Prim.Native.Nat.{ℕ, _+_, _≤_, _<_, min, zero-le}
+use native.Mathlib.Omega.{arith}
+use lib.Dec.{ltb}
+use lib.ListN.{length, replicate, length-append, length-replicate}
+use Rattle.format.specs.declared.error.Error.the-variants.{OutputTooLong, TooManyEntries, TooManyRows}
+use Rattle.format.specs.Limits.{max-bytes}
+use Rattle.format.specs.Answer.{counted, fail, failed, good, onSide, stored, then}
+use Rattle.format.specs.Item.{Item}
+use Rattle.format.specs.Names.{namesFrom}
+use Rattle.format.specs.Reading.{State, items, itemsOf, lenient, reading}
+use Rattle.format.specs.Canonical.{canonical, canonicalFrom}
+use Rattle.format.specs.Joining.{joining, together}
+use Rattle.format.proofs.Tests.{leb-true, ltb-false}
+use Rattle.format.proofs.Lists.{length-items}
+use Rattle.format.proofs.ReadBack.{reading-reads}
+use Rattle.format.proofs.Bounds.{reading-within}
+use Rattle.format.proofs.Joins.{Fits, together-fits, together-names, together-rows, together-size}
+use Rattle.symbols.specs.Entry.{sideOf}
+use Rattle.symbols.proofs.EntryLaws.{side-first, side-second}
+use Rattle.symbols.proofs.ChainLaws.{length-names}
+use Rattle.encoder.proofs.MeasureLaws.{measured-none}
+use Rattle.joiner.specs.declared.measuring.Tally.{Tally}
+use Rattle.joiner.specs.declared.merging.Joined.the-variants.{Done, Failed}
+use Rattle.joiner.specs.declared.putting.Spot.{Spot}
+use Rattle.joiner.specs.Laws.{Joins}
+use Rattle.joiner.specs.Measuring.{Begun, Measures, Tallied, all, over}
+use Rattle.joiner.specs.Putting.{Planning, Put}
+use Rattle.joiner.specs.Merging.{Both, begun, top}
+
+module _ {a b : List ℕ} {rows : ℕ} (p : Both a b rows) where
+  abbrev xs : List Item
+  xs = itemsOf (p .u .found)
+
+  abbrev ys : List Item
+  ys = itemsOf (p .v .found)
+
+  -- joining goes by the items of both
+  joined : (capacity : ℕ) → joining lenient a b capacity ≡ together capacity (xs ++ ys)
+  unfolding joining items onSide then
+  joined capacity = rw (p .first, p .second)
+
+  both-rows : length (xs ++ ys) ≡ rows
+  both-rows = length-append xs ys ∙ omega (arith, length-items (p .u .found), length-items (p .v .found), p .count)
+
+  pub rows-over : (old : List ℕ) → 1024 < rows → Joins a b old (Failed TooManyRows 0 0) old
+  unfolding counted stored then fail
+  rows-over old l = let e = joined (length old) ∙ together-rows (length old) (xs ++ ys) (rw both-rows l) in record { answer = rw e; buffer = rw e }
+
+  -- ---- measured
+
+  pub begun-first : rows ≤ 1024 → Begun a b a 0 [] (p .u) (replicate 256 0) (replicate 768 0) (replicate 1024 0) begun
+  begun-first l =
+      record {
+        bundled = record { sides = omega arith; which = side-first 0 a b refl; short = reading-reads a (p .first) .0; room = omega (arith, p .count) };
+        reads = p .first;
+        before = record { row = refl; small = zero-le; measured = measured-none a b (replicate 1024 0) (length-replicate {A = ℕ} 1024 0) (omega arith) };
+      }
+
+  module _ {es links plan : List ℕ} {t : Tally} where
+    -- one bundle has not too many names
+    first-tallied : Measures a b [] (p .u) es links plan t → Tallied a b es links plan xs t
+    first-tallied (all m) = m
+    first-tallied (over n l) = absurd (omega (arith, reading-within lenient a (p .first) .names))
+
+    pub begun-second : rows ≤ 1024 → Measures a b [] (p .u) es links plan t → Begun a b b 1 xs (p .v) es links plan t
+    begun-second l m =
+        record {
+          bundled = record { sides = omega arith; which = side-second 1 a b (λ e. omega arith); short = reading-reads b (p .second) .0; room = omega (arith, length-items (p .u .found), p .count) };
+          reads = p .second;
+          before = first-tallied m;
+        }
+
+    -- ---- measured whole
+
+    module _ (l : rows ≤ 1024) (m : Measures a b xs (p .v) es links plan t) (old : List ℕ) where
+      few : length (xs ++ ys) ≤ 1024
+      few = rw both-rows l
+
+      many : 256 < t .names → 256 < length (namesFrom [] (xs ++ ys))
+      many g = go m
+        where
+          go : Measures a b xs (p .v) es links plan t → 256 < length (namesFrom [] (xs ++ ys))
+          go (all k) = absurd (omega (arith, k .measured .table .table .few))
+          go (over n h) = h
+
+      pub names-over : 256 < t .names → Joins a b old (Failed TooManyEntries 0 0) old
+      unfolding counted stored then fail
+      names-over g = let e = joined (length old) ∙ together-names (length old) (xs ++ ys) few (many g) in record { answer = rw e; buffer = rw e }
+
+      module _ (g : t .names ≤ 256) where
+        tallied : Tallied a b es links plan (xs ++ ys) t
+        tallied = go m
+          where
+            go : Measures a b xs (p .v) es links plan t → Tallied a b es links plan (xs ++ ys) t
+            go (all k) = k
+            go (over n h) = absurd (omega arith)
+
+        names : length (namesFrom [] (xs ++ ys)) ≤ 256
+        names = omega (arith, ap length (tallied .measured .names), length-names (tallied .measured .table .table))
+
+        pub size-over : ltb (min max-bytes (length old)) (t .size) ≡ true → Joins a b old (Failed OutputTooLong 0 0) old
+        unfolding counted stored then fail
+        size-over o =
+            let c = leb-true _ _ o in
+            let e = joined (length old) ∙ together-size (length old) (xs ++ ys) few names (rw (← tallied .measured .length-is) c) in
+            record { answer = rw e; buffer = rw e }
+
+        -- ---- written
+
+        module _ (o : ltb (min max-bytes (length old)) (t .size) ≡ false) where
+          fits : length (canonical (xs ++ ys)) ≤ min max-bytes (length old)
+          fits = rw (← tallied .measured .length-is) (ltb-false _ _ o)
+
+          pub planning-first : Planning a [] ys (p .u) plan (length old)
+          planning-first =
+              record {
+                short = reading-reads a (p .first) .0;
+                reads = p .first;
+                size = tallied .measured .plan-size;
+                planned = tallied .measured .planned;
+                few = names;
+                fits = omega (arith, fits);
+              }
+
+          pub put-first : Put [] old old top
+          unfolding canonical canonicalFrom
+          put-first = record { row = refl; puts = (refl, refl) }
+
+          pub planning-second : Planning b xs [] (p .v) plan (length old)
+          planning-second =
+              record {
+                short = reading-reads b (p .second) .0;
+                reads = p .second;
+                size = tallied .measured .plan-size;
+                planned = rw (append-nil (xs ++ ys)) (tallied .measured .planned);
+                few = rw (append-nil (xs ++ ys)) names;
+                fits = rw (append-nil (xs ++ ys)) (omega (arith, fits));
+              }
+
+          pub written : {new : List ℕ} {w : Spot} → Put (xs ++ ys) old new w → Joins a b old (Done (t .size)) new
+          unfolding counted stored then
+          written q =
+              let e = joined (length old) ∙ together-fits (length old) (xs ++ ys) (record { rows = few; names = names; size = fits }) in
+              record { answer = rw e (ap good (tallied .measured .length-is)); buffer = rw e (q .puts .1) }
