@@ -8,4 +8,5 @@ pub mod MeasureLoop
 pub mod PutSteps
 pub mod PutLoop
 pub mod MergeLaws
+pub mod JoinLaws
 pub mod Laws

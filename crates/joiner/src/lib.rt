@@ -1,8 +1,10 @@
 // The joiner: two bundles to one, and one bundle to its canonical encoding.
 mod item;
 mod joining;
-mod merging;
 mod measuring;
+mod merging;
 mod putting;
 
+pub use joining::canonicalize;
+pub use joining::join;
 pub use merging::Joined;
