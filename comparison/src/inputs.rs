@@ -1,9 +1,9 @@
 //! Inputs: the reference's generators, and a few families that they lack.
 
+use crate::items::Content;
 use reference::generate::model::{self, fewest, header};
 use reference::generate::tables::{self, Table};
 use reference::generate::{bundles, pairs, Random};
-use reference::{Mode, Row, MAX_ROWS};
 
 /// A mix of all families: whole, wasteful, damaged, at the limits, noise, texts, and joined.
 pub fn bundle(random: &mut Random) -> Vec<u8> {
@@ -45,10 +45,8 @@ pub fn table(random: &mut Random) -> Table {
 /// The rows of a bundle, over the bundle itself.
 fn rows_read(random: &mut Random) -> Table {
     let text = bundles::bundle(random);
-    let mut rows = vec![Row::default(); MAX_ROWS];
-    let Ok(counts) = reference::read(&text, Mode::Lenient, &mut rows) else {
-        return tables::good(random);
-    };
-    rows.truncate(counts.rows);
-    tables::fitted(random, rows, text)
+    match Content::of(&text) {
+        Some(content) => tables::fitted(random, content.rows, text),
+        None => tables::good(random),
+    }
 }

@@ -1,7 +1,9 @@
 //! The proved library's C functions as safe Rust functions, and inputs to compare them on.
 
+pub mod buffer;
 pub mod cases;
 pub mod inputs;
+pub mod items;
 mod read;
 mod row;
 mod tally;

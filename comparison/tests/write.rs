@@ -1,73 +1,36 @@
 //! `nachricht_write` answers what the reference answers and leaves the same bytes in the buffer,
 //! and what it has written reads back as the items of the rows.
 
-use comparison::{cases, inputs, read, write, Answer, Row, Tally};
-use reference::generate::model::{different_names, meanings};
+use comparison::buffer::{capacities, Outcome, PLENTY};
+use comparison::cases::writing;
+use comparison::items::assert_reads_back;
+use comparison::{inputs, write, Answer, Row, Tally};
+use reference::generate::model::meanings;
 use reference::generate::tables::Table;
 use reference::generate::Random;
-use reference::{Mode, MAX_BYTES, MAX_ROWS};
+use reference::{MAX_BYTES, MAX_ROWS};
 
 const SEEDS: u64 = 120_000;
 
 /// These after them, each with a buffer of every length of note.
 const SEEDS_FOR_ALL_LENGTHS: u64 = 8_000;
 
-/// Bytes before the buffer and after it, which no call may change.
-const GUARDS: usize = 67;
-
-/// Bytes that differ from their neighbours, so that a stray byte or copy shows.
-fn untouched(length: usize) -> Vec<u8> {
-    (0..length).map(|place| (place * 151 + 7) as u8).collect()
-}
-
-/// Compares the answers, and buffers of the table's capacity with the guards around them.
+/// Compares the answers and the buffers, and reads back what was written.
 fn compare(table: &Table) -> Answer {
     let Table {
         rows,
         text,
         capacity,
     } = table;
-    let mut out = vec![0; *capacity];
-    let result = reference::write(rows, text, &mut out);
-    let written = result.unwrap_or(0);
-    let mut expected = untouched(capacity + 2 * GUARDS);
-    let mut buffer = expected.clone();
-    expected[GUARDS..GUARDS + written].copy_from_slice(&out[..written]);
+    let expected = Outcome::expected(*capacity, |out| reference::write(rows, text, out));
     let rows = rows.iter().copied().map(Row::from).collect::<Vec<_>>();
-    let answer = write(&rows, text, &mut buffer[GUARDS..GUARDS + capacity]);
-    assert_eq!(answer, Answer::from(result), "{table:02X?}");
-    assert!(buffer == expected, "bytes differ, {table:02X?}");
-    if answer.error == 0 {
-        assert_reads_back(table, &buffer[GUARDS..GUARDS + written]);
+    let outcome = Outcome::of(*capacity, |out| write(&rows, text, out));
+    outcome.assert_is(&expected, table);
+    if outcome.answer.error == 0 {
+        let items = meanings(&table.rows, text);
+        assert_reads_back(outcome.written(), &items, table);
     }
-    answer
-}
-
-/// Strict reading gives the items of the rows, which start elsewhere in these bytes.
-fn assert_reads_back(table: &Table, written: &[u8]) {
-    let mut rows = vec![Row::from(reference::Row::default()); MAX_ROWS];
-    let answer = read(written, Mode::Strict, &mut rows);
-    let items = meanings(&table.rows, &table.text);
-    assert_eq!(answer.error, 0, "not canonical, {table:02X?}");
-    assert_eq!(answer.count, items.len() as u64, "{table:02X?}");
-    assert_eq!(answer.entries, different_names(&items) as u64);
-    let rows = rows[..items.len()].iter().copied();
-    let rows = rows.map(reference::Row::from).collect::<Vec<_>>();
-    assert!(meanings(&rows, written) == items, "read back, {table:02X?}");
-}
-
-/// Capacities at which the answer may change, for a result of so many bytes.
-fn capacities(result: usize) -> [usize; 8] {
-    [
-        0,
-        result.saturating_sub(1),
-        result,
-        result + 1,
-        result + 40,
-        MAX_BYTES,
-        MAX_BYTES + 1,
-        20_000,
-    ]
+    outcome.answer
 }
 
 /// The bytes that the rows take, or as many as were meant before they were made bad.
@@ -83,7 +46,7 @@ fn generated_tables() {
         let table = inputs::table(&mut Random::new(seed));
         let answer = compare(&table);
         tally.add(answer);
-        cases::look(&mut tally, &table, answer);
+        writing::look(&mut tally, &table, answer);
     }
     tally.assert_complete();
 }
@@ -117,7 +80,7 @@ fn far_too_long_results() {
                 let table = Table {
                     rows: vec![row; count],
                     text: text.clone(),
-                    capacity: 20_000,
+                    capacity: PLENTY,
                 };
                 let fits = count == 1 && number == 16_381;
                 assert_eq!(compare(&table).error, if fits { 0 } else { 10 });

@@ -1,5 +1,6 @@
 //! The cases of writing that a comparison has to meet, told from a table and the answer for it.
 
+use super::result::{look_at_refused, look_at_written};
 use crate::{Answer, Tally};
 use reference::generate::model::{canonical, different_names, meanings};
 use reference::generate::tables::Table;
@@ -67,7 +68,7 @@ pub fn look(tally: &mut Tally, table: &Table, answer: Answer) {
         1 => tally.look_for("1: a byte too many", text == MAX_BYTES + 1),
         7 => tally.look_for("7: a row too many", rows == MAX_ROWS + 1),
         9 => look_at_bad_row(tally, &table.rows[answer.place as usize], text),
-        10 => look_at_long_result(tally, table),
+        10 => look_at_refused(tally, result_of(table), table.capacity),
         _ => {}
     }
 }
@@ -86,10 +87,7 @@ fn look_at_success(tally: &mut Tally, table: &Table, written: usize) {
     );
     tally.look_for("all rows", items.len() == MAX_ROWS);
     tally.look_for("longest text", text == MAX_BYTES);
-    tally.look_for("longest result", written == MAX_BYTES);
-    tally.look_for("buffer just long enough", written == table.capacity);
-    tally.look_for("longer buffer", written < table.capacity);
-    tally.look_for("empty buffer that is enough", table.capacity == 0);
+    look_at_written(tally, written, table.capacity);
     for (case, is_so) in JUST_GOOD {
         tally.look_for(case, table.rows.iter().any(|row| is_so(row, text)));
     }
@@ -108,11 +106,7 @@ fn look_at_bad_row(tally: &mut Tally, row: &Row, text: usize) {
     tally.look_for("9: end that wraps into the text", is_wrapped);
 }
 
-fn look_at_long_result(tally: &mut Tally, table: &Table) {
-    let result = canonical(&meanings(&table.rows, &table.text)).len();
-    let (capacity, fits) = (table.capacity, result <= MAX_BYTES);
-    let is_one_more = result == MAX_BYTES + 1;
-    tally.look_for("10: a byte too many", is_one_more && result <= capacity);
-    tally.look_for("10: buffer a byte short", fits && result == capacity + 1);
-    tally.look_for("10: empty buffer", fits && capacity == 0);
+/// The bytes of the canonical encoding, whatever their number.
+fn result_of(table: &Table) -> usize {
+    canonical(&meanings(&table.rows, &table.text)).len()
 }
