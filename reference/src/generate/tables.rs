@@ -27,7 +27,7 @@ pub fn table(random: &mut Random) -> Table {
         long_result,
         clash,
         damaged,
-        alike,
+        names_alike,
         windows,
         far,
     ];
@@ -308,8 +308,13 @@ fn damage(random: &mut Random, rows: &mut Vec<Row>) {
     }
 }
 
+fn names_alike(random: &mut Random) -> Table {
+    let items = alike(random);
+    of_items(random, &items)
+}
+
 /// Names that differ in one byte or in their kind only, up to as many as allowed, and used again.
-fn alike(random: &mut Random) -> Table {
+pub fn alike(random: &mut Random) -> Vec<Meaning> {
     let length = 1 + random.below(40);
     let changed = random.below(length);
     let name = |kind, byte| {
@@ -327,7 +332,7 @@ fn alike(random: &mut Random) -> Table {
         let (key, symbol) = (random.below(bytes), random.below(bytes));
         items.extend([name(11, key), name(10, symbol)]);
     }
-    of_items(random, &items)
+    items
 }
 
 /// Content anywhere in a short text: it overlaps, begins alike, or ends inside a character.
