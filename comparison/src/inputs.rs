@@ -14,11 +14,47 @@ pub fn bundle(random: &mut Random) -> Vec<u8> {
     }
 }
 
+/// All inputs of at most one byte.
+fn shortest() -> impl Iterator<Item = Vec<u8>> {
+    let one = (0..=u8::MAX).map(|byte| vec![byte]);
+    [Vec::new()].into_iter().chain(one)
+}
+
 /// All inputs of at most two bytes.
 pub fn short() -> impl Iterator<Item = Vec<u8>> {
-    let one = (0..=u8::MAX).map(|byte| vec![byte]);
     let two = (0..=u16::MAX).map(|bytes| bytes.to_be_bytes().to_vec());
-    [Vec::new()].into_iter().chain(one).chain(two)
+    shortest().chain(two)
+}
+
+/// Small bundles with names, most of which share some; the last two are bad.
+const WITH_NAMES: [&[u8]; 12] = [
+    b"\xC1d\xA1d",
+    b"\xC1d\xA1d\xE0\xE1",
+    b"\xA1d\xC1d\x00",
+    b"\xA1d\xE0",
+    b"\xA1d\xA1d\xE1",
+    b"\xA1m\xA1d\xE1\xE0",
+    b"\xA1d\xA1m\xF8\x01",
+    b"\xB8\x01d\xA1m",
+    b"\x62\xC1d\x25\xC1m\x23",
+    b"\x61\xC1m\x62\xA1m\xE0\x00",
+    b"\xC1d\xC1m\x00",
+    b"\xC1d\x00\xE0",
+];
+
+/// All inputs of at most one byte, all of two and three that a few bytes make, and some with names.
+pub fn small() -> Vec<Vec<u8>> {
+    // Null, a container, symbols, a key and references. The first two are also content.
+    let bytes = [0x00, 0x61, 0xA0, 0xA1, 0xC0, 0xE0, 0xE1];
+    let two = bytes.map(|first| bytes.map(|second| vec![first, second]));
+    let two = two.concat();
+    let mut inputs = shortest().collect::<Vec<_>>();
+    for start in &two {
+        inputs.extend(bytes.map(|last| [&start[..], &[last]].concat()));
+    }
+    inputs.extend(two);
+    inputs.extend(WITH_NAMES.map(<[u8]>::to_vec));
+    inputs
 }
 
 /// A string or a name, first ASCII and then other characters, perhaps damaged, and a null.

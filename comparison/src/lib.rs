@@ -4,17 +4,19 @@ pub mod buffer;
 pub mod cases;
 pub mod inputs;
 pub mod items;
+mod join;
 mod read;
 mod row;
 mod tally;
 mod write;
 
+pub use join::join;
 pub use read::read;
 pub use row::Row;
 pub use tally::Tally;
 pub use write::write;
 
-use reference::{Counts, Error, Mode};
+use reference::{Counts, Error, JoinError, Mode};
 
 pub const MODES: [Mode; 2] = [Mode::Lenient, Mode::Strict];
 
@@ -54,6 +56,17 @@ impl From<Result<usize, Error>> for Answer {
                 ..Answer::default()
             },
             Err(error) => Answer::from(error),
+        }
+    }
+}
+
+/// The one answer for what the reference joins: as in writing, and the side of an error.
+impl From<Result<usize, JoinError>> for Answer {
+    fn from(result: Result<usize, JoinError>) -> Answer {
+        let side = result.map_or_else(|refused| refused.side, |_| 0);
+        Answer {
+            side: u64::from(side),
+            ..Answer::from(result.map_err(|refused| refused.error))
         }
     }
 }

@@ -1,0 +1,82 @@
+//! `nachricht_join` answers what the reference answers and leaves the same bytes in the buffer,
+//! and what it has written reads back as the items of both bundles.
+
+use comparison::buffer::{capacities, Outcome};
+use comparison::cases::joining;
+use comparison::items::{assert_reads_back, items_of};
+use comparison::{inputs, join, Tally};
+use reference::generate::pairs::{self, Pair};
+use reference::generate::Random;
+use reference::MAX_BYTES;
+
+const SEEDS: u64 = 100_000;
+
+/// These after them, each with a buffer of every length of note.
+const SEEDS_FOR_ALL_LENGTHS: u64 = 6_000;
+
+/// Compares the answers and the buffers, and reads back what was written.
+fn compare(pair: &Pair) -> Outcome {
+    let Pair {
+        first,
+        second,
+        capacity,
+    } = pair;
+    let expected = Outcome::expected(*capacity, |out| reference::join(first, second, out));
+    let outcome = Outcome::of(*capacity, |out| join(first, second, out));
+    outcome.assert_is(&expected, pair);
+    if outcome.answer.error == 0 {
+        let items = [items_of(first), items_of(second)].concat();
+        assert_reads_back(outcome.written(), &items, pair);
+    }
+    outcome
+}
+
+/// The bytes that both take, or as many as were meant before one was made bad.
+fn result_of(pair: &Pair) -> usize {
+    let mut out = vec![0; MAX_BYTES];
+    reference::join(&pair.first, &pair.second, &mut out).unwrap_or(pair.capacity)
+}
+
+#[test]
+fn generated_pairs() {
+    let mut tally = Tally::of_joining();
+    for seed in 0..SEEDS {
+        let pair = pairs::pair(&mut Random::new(seed));
+        let answer = compare(&pair).answer;
+        tally.add(answer);
+        joining::look(&mut tally, &pair, answer);
+    }
+    tally.assert_complete();
+}
+
+#[test]
+fn all_lengths() {
+    let mut tally = Tally::of_joining();
+    for seed in SEEDS..SEEDS + SEEDS_FOR_ALL_LENGTHS {
+        let mut pair = pairs::pair(&mut Random::new(seed));
+        for capacity in capacities(result_of(&pair)) {
+            pair.capacity = capacity;
+            tally.add(compare(&pair).answer);
+        }
+    }
+    tally.assert_complete();
+}
+
+#[test]
+fn small_pairs() {
+    let bundles = inputs::small();
+    for first in &bundles {
+        for second in &bundles {
+            let mut pair = Pair {
+                first: first.clone(),
+                second: second.clone(),
+                capacity: 40,
+            };
+            let result = compare(&pair).answer.count as usize;
+            for capacity in result.saturating_sub(1)..=result + 1 {
+                pair.capacity = capacity;
+                compare(&pair);
+            }
+        }
+    }
+}
