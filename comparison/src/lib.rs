@@ -1,6 +1,7 @@
 //! The proved library's C functions as safe Rust functions, and inputs to compare them on.
 
 pub mod buffer;
+mod canonicalize;
 pub mod cases;
 pub mod inputs;
 pub mod items;
@@ -10,6 +11,7 @@ mod row;
 mod tally;
 mod write;
 
+pub use canonicalize::canonicalize;
 pub use join::join;
 pub use read::read;
 pub use row::Row;

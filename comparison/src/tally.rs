@@ -5,10 +5,11 @@ use std::collections::BTreeMap;
 use crate::Answer;
 use reference::Mode;
 
-/// What reading in each mode, and writing, can answer, with 0 for success.
+/// What reading in each mode, writing and canonicalizing can answer, with 0 for success.
 const LENIENT: [u64; 9] = [0, 1, 2, 3, 4, 5, 6, 7, 8];
 const STRICT: [u64; 10] = [0, 1, 2, 3, 4, 5, 6, 7, 8, 11];
 const WRITING: [u64; 10] = [0, 1, 2, 3, 5, 6, 7, 8, 9, 10];
+const CANONICALIZING: [u64; 10] = [0, 1, 2, 3, 4, 5, 6, 7, 8, 10];
 
 /// What joining can answer for both bundles together, and for each of them.
 const TOGETHER: [u64; 4] = [0, 7, 8, 10];
@@ -31,6 +32,10 @@ impl Tally {
 
     pub fn of_writing() -> Tally {
         Tally::expecting(&[&WRITING])
+    }
+
+    pub fn of_canonicalizing() -> Tally {
+        Tally::expecting(&[&CANONICALIZING])
     }
 
     pub fn of_joining() -> Tally {
