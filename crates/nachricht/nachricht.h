@@ -29,4 +29,10 @@ nachricht_answer nachricht_read(const uint8_t *bytes, size_t len, bool strict, n
 /* Writes the canonical encoding of rows, whose starts point into text. On an error no byte of out is changed; out may not overlap rows or text. */
 nachricht_answer nachricht_write(const nachricht_row *rows, size_t rows_len, const uint8_t *text, size_t text_len, uint8_t *out, size_t out_len);
 
+/* Writes the canonical encoding of a bundle. On an error no byte of out is changed; out may not overlap bytes. */
+nachricht_answer nachricht_canonicalize(const uint8_t *bytes, size_t len, uint8_t *out, size_t out_len);
+
+/* Writes the canonical encoding of the first bundle's fields followed by the second's. On an error no byte of out is changed; out may not overlap either bundle. */
+nachricht_answer nachricht_join(const uint8_t *first, size_t first_len, const uint8_t *second, size_t second_len, uint8_t *out, size_t out_len);
+
 #endif

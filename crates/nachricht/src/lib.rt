@@ -1,18 +1,21 @@
 // The C interface, built as the static library `libnachricht.a`.
 ghost use mathlib.Core.Path.{_≡_};
 ghost use lib.ListN.{length};
-ghost use Rattle.format.specs.Answer.{failure, counted, stored};
+ghost use Rattle.format.specs.Answer.{counted, good, stored};
 ghost use Rattle.format.specs.Error.{codeOf};
 ghost use Rattle.format.specs.Limits.{max-rows};
-ghost use Rattle.format.specs.Reading.{options, counts};
+ghost use Rattle.format.specs.Reading.{options, counts, lenient};
 ghost use Rattle.format.specs.Rows as table;
 ghost use Rattle.format.specs.Writing.{writing};
+ghost use Rattle.format.specs.Joining.{canonicalizing, joining};
 ghost use Rattle.reader.specs.Answers.{answerOf};
 ghost use Rattle.writer.specs.Answers as writer;
+ghost use Rattle.joiner.specs.Answers as joiner;
 ghost use Rattle.nachricht.specs.Answers.{modeOf, failedAnswer, countsAnswer, countAnswer};
 use format::Error;
 use format::Mode;
 use format::Row;
+use joiner::Joined;
 use reader::Checked;
 use writer::Written;
 
@@ -36,13 +39,13 @@ fn mode_of(strict: bool) -> Mode
     Mode::Lenient
 }
 
-fn failed(e: Error, place: usize) -> Answer
-    ensures { λ a. ⌜ a ≡ failedAnswer (failure (codeOf e) place) ⌝ }
+fn failed(e: Error, place: usize, side: u8) -> Answer
+    ensures { λ a. ⌜ a ≡ failedAnswer (record { code = codeOf e; place = place; side = side }) ⌝ }
 {
     Answer {
         error: e.code() as u64,
         place: place as u64,
-        side: 0,
+        side: side as u64,
         count: 0,
         entries: 0,
         fields: 0,
@@ -53,7 +56,7 @@ fn answer_of(r: Checked) -> Answer
     ensures { λ a. ⌜ a ≡ countsAnswer (answerOf r) ⌝ }
 {
     match r {
-        Checked::Failed(e, p) => failed(e, p),
+        Checked::Failed(e, p) => failed(e, p, 0),
         Checked::Good(b) => Answer {
             error: 0,
             place: 0,
@@ -65,19 +68,35 @@ fn answer_of(r: Checked) -> Answer
     }
 }
 
+// So many bytes were written.
+fn done(n: usize) -> Answer
+    ensures { λ a. ⌜ a ≡ countAnswer (good n) ⌝ }
+{
+    Answer {
+        error: 0,
+        place: 0,
+        side: 0,
+        count: n as u64,
+        entries: 0,
+        fields: 0,
+    }
+}
+
 fn written_of(r: Written) -> Answer
     ensures { λ a. ⌜ a ≡ countAnswer (writer.answerOf r) ⌝ }
 {
     match r {
-        Written::Failed(e, p) => failed(e, p),
-        Written::Done(n) => Answer {
-            error: 0,
-            place: 0,
-            side: 0,
-            count: n as u64,
-            entries: 0,
-            fields: 0,
-        },
+        Written::Failed(e, p) => failed(e, p, 0),
+        Written::Done(n) => done(n),
+    }
+}
+
+fn joined_of(r: Joined) -> Answer
+    ensures { λ a. ⌜ a ≡ countAnswer (joiner.answerOf r) ⌝ }
+{
+    match r {
+        Joined::Failed(e, p, s) => failed(e, p, s),
+        Joined::Done(n) => done(n),
     }
 }
 
@@ -105,4 +124,22 @@ pub extern "C" fn nachricht_write(rows: &[Row], text: &[u8], out: &mut [u8]) -> 
     ensures buffer { λ _. ⌜ now (out .exit) ≡ stored (now (out .entry)) (writing (now (rows .entry)) (now (text .entry)) (length (now (out .entry)))) ⌝ }
 {
     written_of(writer::write(rows, text, out))
+}
+
+// Writes the canonical encoding of a bundle.
+#[no_mangle]
+pub extern "C" fn nachricht_canonicalize(bytes: &[u8], out: &mut [u8]) -> Answer
+    ensures answer { λ r. ⌜ r ≡ countAnswer (counted (canonicalizing (now (bytes .entry)) (length (now (out .entry))))) ⌝ }
+    ensures buffer { λ _. ⌜ now (out .exit) ≡ stored (now (out .entry)) (canonicalizing (now (bytes .entry)) (length (now (out .entry)))) ⌝ }
+{
+    written_of(joiner::canonicalize(bytes, out))
+}
+
+// Joins two bundles.
+#[no_mangle]
+pub extern "C" fn nachricht_join<'a>(first: &'a [u8], second: &'a [u8], out: &mut [u8]) -> Answer
+    ensures answer { λ r. ⌜ r ≡ countAnswer (counted (joining lenient (now (first .entry)) (now (second .entry)) (length (now (out .entry))))) ⌝ }
+    ensures buffer { λ _. ⌜ now (out .exit) ≡ stored (now (out .entry)) (joining lenient (now (first .entry)) (now (second .entry)) (length (now (out .entry)))) ⌝ }
+{
+    joined_of(joiner::join(first, second, out))
 }
