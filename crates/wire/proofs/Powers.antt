@@ -1,0 +1,57 @@
+-- Bytes as digits to the base 256: shifted by whole bytes, a number is that of its first bytes. Assumes nothing.
+use mathlib.Core.Path.{_≡_, refl, ap, sym, _∙_}
+use mathlib.Core.List.{List, [], _∷_, _++_}
+use Prim.Native.Nat.{ℕ, zero, suc, _+_, _-_, _*_, _/_, _^_, _≤_, _<_}
+use native.Mathlib.Nat.{div-one, div-div-eq-div-mul, lt-of-lt-of-le, pow-suc, pow-zero}
+use native.Mathlib.Omega.{arith}
+use lib.Arith.{digits-div}
+use lib.ListN.{length, take, drop, getD, length-drop, take-append-drop}
+use lib.Pow.{pow-add}
+use lib.Seq.{length-take-le, take-take}
+use Rattle.format.specs.Header.{bigEndian}
+use Rattle.format.specs.WellFormed.{Byte, Bytes}
+use Rattle.format.proofs.Lists.{all-drop, all-take}
+use Rattle.format.proofs.Numbers.{bigEndian-append, bigEndian-lt, bytes-of}
+use Rattle.wire.proofs.HeaderLaws.{bigEndian-step, most}
+
+pub pow-256 : (k : ℕ) → 256 ^ k ≡ 2 ^ (8 * k)
+pow-256 zero = refl
+pow-256 (suc k) =
+    pow-suc 256 k ∙ ap (λ (x : ℕ). x * 256) (pow-256 k) ∙ sym (pow-add 2 (8 * k) 8) ∙ ap (λ (x : ℕ). 2 ^ x) (omega arith)
+
+before : (acc : ℕ) (bs : List ℕ) → Bytes bs → bigEndian acc bs / 256 ^ length bs ≡ acc
+unfolding bigEndian
+before acc [] p = rw (pow-zero, div-one)
+before acc (b ∷ bs) p =
+    rw (pow-suc 256 (length bs), ← div-div-eq-div-mul (bigEndian (acc * 256 + b) bs) (256 ^ length bs) 256, before (acc * 256 + b) bs (p .1)) (digits-div acc (p .0))
+
+module _ (s : List ℕ) (a n : ℕ) (b : (i : ℕ) → getD s i 0 < 256) where
+  part : (k : ℕ) → Bytes (take k (drop a s))
+  part k = all-take Byte k (drop a s) (all-drop Byte a s (bytes-of s (λ i _. b i)))
+
+  bytes-lt : a + n ≤ length s → bigEndian 0 (take n (drop a s)) < 256 ^ n
+  bytes-lt l = rw (length-take-le n (drop a s) (omega (arith, length-drop a s))) at (bigEndian-lt (take n (drop a s)) (part n))
+
+  -- The first n of eight bytes.
+  pub first-bytes : a + 8 ≤ length s → n ≤ 8 → bigEndian 0 (take 8 (drop a s)) / 2 ^ (8 * (8 - n)) ≡ bigEndian 0 (take n (drop a s))
+  first-bytes l u =
+      let xs = take 8 (drop a s) in
+      let long : length xs ≡ 8 = length-take-le 8 (drop a s) (omega (arith, length-drop a s)) in
+      let rest : length (drop n xs) ≡ 8 - n = length-drop n xs ∙ ap (λ (k : ℕ). k - n) long in
+      let front : take n xs ≡ take n (drop a s) = take-take n 8 (drop a s) u in
+      let whole : bigEndian 0 xs ≡ bigEndian (bigEndian 0 (take n (drop a s))) (drop n xs) =
+      ap (bigEndian 0) (sym (take-append-drop n xs)) ∙ bigEndian-append 0 (take n xs) (drop n xs) ∙ ap (λ (ys : List ℕ). bigEndian (bigEndian 0 ys) (drop n xs)) front in
+      ap (λ (k : ℕ). bigEndian 0 xs / k) (sym (pow-256 (8 - n)) ∙ ap (λ (k : ℕ). 256 ^ k) (sym rest)) ∙ ap (λ (x : ℕ). x / 256 ^ length (drop n xs)) whole
+      ∙ before _ (drop n xs) (all-drop Byte n xs (part 8))
+
+  -- The last byte by itself.
+  pub last-byte : 1 ≤ n → a + n ≤ length s → bigEndian 0 (take (n - 1) (drop a s)) * 256 + getD s (a + n - 1) 0 ≡ bigEndian 0 (take n (drop a s))
+  last-byte l u =
+      let k : n - 1 + 1 ≡ n = omega arith in
+      let i : a + (n - 1) ≡ a + n - 1 = omega arith in
+      sym (ap (λ (m : ℕ). bigEndian 0 (take m (drop a s))) (sym k) ∙ bigEndian-step s a (n - 1) (omega arith) ∙ ap (λ (m : ℕ). bigEndian 0 (take (n - 1) (drop a s)) * 256 + getD s m 0) i)
+
+  pub bytes-word : 1 ≤ n → n ≤ 8 → a + n ≤ length s → bigEndian 0 (take n (drop a s)) < 18446744073709551616
+  bytes-word l u w =
+      let k : n - 1 + 1 ≡ n = omega arith in
+      lt-of-lt-of-le (bytes-lt w) (rw k at (most (n - 1) (omega arith)))
