@@ -2,10 +2,10 @@
 ghost use mathlib.Core.Path.{_≡_};
 ghost use mathlib.Core.Bool.{Bool, true, false, not};
 ghost use mathlib.Core.List.{List};
-ghost use mathlib.Core.Option.{some, none};
+ghost use mathlib.Core.Option.{some};
 ghost use Prim.Native.Nat.{ℕ, _+_, _-_, _≤_, _<_};
 ghost use lib.Dec.{eqb, leb};
-ghost use lib.ListN.{length, take, drop};
+ghost use lib.ListN.{length, drop};
 ghost use Rattle.format.specs.Choice.{_&&_, _||_};
 ghost use Rattle.format.specs.Header.{headerOf, isLong, isNegativeAlias};
 ghost use Rattle.format.specs.Utf8.{utf8};
@@ -18,7 +18,7 @@ use format::FieldCount;
 use format::Header;
 use format::SymbolTable;
 use symbols::lookup::Links;
-use symbols::lookup::Lookup;
+use symbols::lookup::Noted;
 use wire::header::Head;
 
 // What one item is, with the offset of the next.
@@ -168,23 +168,10 @@ fn new_name(
     ensures { λ r. ⌜ Entered true (now (s .entry)) (now (entries .entry)) (now (entries .exit)) (now (links .exit)) names kind next e r ⌝ }
 {
     let part = &s[next..e];
-    let key = symbols::entry::key_of(kind, part);
-    match symbols::lookup::find(s, s, entries, links, names, kind, key, part) {
-        Lookup::At(_) => Out::Bad(Error::NotCanonical),
-        Lookup::Nothing => {
-            if SymbolTable::MAX_ENTRIES <= names {
-                return Out::Bad(Error::TooManyEntries);
-            }
-            symbols::lookup::enter(
-                s,
-                s,
-                entries,
-                links,
-                names,
-                next as u64 * 562949953421312 + key,
-            );
-            fresh(kind, e)
-        }
+    match symbols::lookup::note(s, s, entries, links, names, kind, 0, next, part) {
+        Noted::Known(_) => Out::Bad(Error::NotCanonical),
+        Noted::Entered => fresh(kind, e),
+        Noted::Full => Out::Bad(Error::TooManyEntries),
     }
 }
 
