@@ -168,7 +168,8 @@ fn new_name(
     ensures { λ r. ⌜ Entered true (now (s .entry)) (now (entries .entry)) (now (entries .exit)) (now (links .exit)) names kind next e r ⌝ }
 {
     let part = &s[next..e];
-    match symbols::lookup::note(s, s, entries, links, names, kind, 0, next, part) {
+    let key = symbols::entry::key_of(kind, part);
+    match symbols::lookup::note(s, s, entries, links, names, kind, key, 0, next, part) {
         Noted::Known(_) => Out::Bad(Error::NotCanonical),
         Noted::Entered => fresh(kind, e),
         Noted::Full => Out::Bad(Error::TooManyEntries),

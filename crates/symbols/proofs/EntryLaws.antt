@@ -36,7 +36,7 @@ module _ {a b : List ℕ} {e kind key : ℕ} (content : List ℕ) (ok : Sound a 
       let k : kind ≡ kindIn e = omega arith in
       rw (eqb-yes k)
 
-key-lt : (kind : ℕ) (content : List ℕ) → kind ≤ 11 → length content ≤ 16384 → keyOf kind content < 281474976710656
+pub key-lt : (kind : ℕ) (content : List ℕ) → kind ≤ 11 → length content ≤ 16384 → keyOf kind content < 281474976710656
 key-lt kind content k l = omega (arith, mark-lt content)
 
 -- ---- sides

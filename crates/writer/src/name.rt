@@ -22,6 +22,7 @@ use format::Bundle;
 use format::Error;
 use format::Row;
 use format::SymbolTable;
+use symbols::entry::key_of;
 use symbols::lookup::Links;
 use symbols::lookup::Noted;
 use symbols::lookup::note;
@@ -140,17 +141,10 @@ fn looked_up(
         return refuse(s, Error::InvalidUtf8);
     }
     let kind = row.kind;
-    match note(
-        text,
-        text,
-        entries,
-        links,
-        s.names,
-        kind,
-        0,
-        row.start,
-        part,
-    ) {
+    let key = key_of(kind, part);
+    let names = s.names;
+    let start = row.start;
+    match note(text, text, entries, links, names, kind, key, 0, start, part) {
         Noted::Known(i) => known(stack, plan, s, kind, i as u16),
         Noted::Entered => fresh(stack, plan, s, row),
         Noted::Full => refuse(s, Error::TooManyEntries),

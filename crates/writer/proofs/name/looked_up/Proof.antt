@@ -28,9 +28,14 @@ returns c = λ xs a.
     refuse-next a (c .before .before .before .before .before .args .row) 3 (c .refuse .ensures) (λ z. omega arith) error-3
     (name-invalid a (c .before .before .before .before .before .args .row) (w .name) (w .fine) (w .alone) (ap not (ap utf8 (sym (c .before .before .before .content .ensures)) ∙ sym (c .before .before .is-utf8 .ensures)) ∙ c .before .if1 .taken))
 
+key-of-requires : tie.Need-key-of-requires
+key-of-requires c κs = let p = c .before .before .before .before .pre in
+    let w = name-stands (c .before .before .before .before .args .text .now) (c .before .before .before .before .args .row) (p .1 .name) (p .1 .fine) (p .0 .short) (c .before .before .content .ensures) in
+    (w .low, w .high, w .short)
+
 note-requires : tie.Need-note-requires
-note-requires c κs = let p = c .before .before .before .before .before .before .pre in
-    (p .2, name-stands (c .before .before .before .before .before .before .args .text .now) (c .before .before .before .before .before .before .args .row) (p .1 .name) (p .1 .fine) (p .0 .short) (c .before .before .before .before .content .ensures))
+note-requires c κs = let p = c .before .before .before .before .before .before .before .pre in
+    (p .2, name-stands (c .before .before .before .before .before .before .before .args .text .now) (c .before .before .before .before .before .before .before .args .row) (p .1 .name) (p .1 .fine) (p .0 .short) (c .before .before .before .before .before .content .ensures), c .before .before .key-of .ensures .0)
 
 enum-known-i : tie.Need-enum-known-i
 enum-known-i c = search needs
@@ -45,9 +50,9 @@ enum-told : tie.Need-enum-told
 enum-told c = search needs
 
 fresh-requires : tie.Need-fresh-requires
-fresh-requires c κs = let p = c .before .before .before .before .before .before .before .before .before .before .pre in
-    let r = c .before .before .before .before .before .before .before .before .before .before .args .row in
-    let text = c .before .before .before .before .before .before .before .before .before .before .args .text .now in
+fresh-requires c κs = let p = c .before .before .before .before .before .before .before .before .before .before .before .pre in
+    let r = c .before .before .before .before .before .before .before .before .before .before .before .args .row in
+    let text = c .before .before .before .before .before .before .before .before .before .before .before .args .text .now in
     let n = rw (c .before .enum-told .given .1) at (c .before .before .before .note .ensures) in
     let i = inside text r (p .1 .fine) (has-content text r (p .1 .name) (p .1 .fine)) in
     ((text, p .0), p .3, n .room, p .1 .name, kind-most text r (p .1 .fine), omega (arith, i, p .0 .short))
@@ -60,27 +65,27 @@ refuse-requires-2 c κs = search needs
 
 returns-2 : tie.Need-returns-2
 returns-2 c = λ xs a.
-    let p = c .before .before .before .before .before .before .before .before .before .before .before .before .pre in
-    let r = c .before .before .before .before .before .before .before .before .before .before .before .before .args .row in
+    let p = c .before .before .before .before .before .before .before .before .before .before .before .before .before .pre in
+    let r = c .before .before .before .before .before .before .before .before .before .before .before .before .before .args .row in
     let n = rw (c .before .before .before .i .given .1) at (c .before .before .before .before .before .note .ensures) in
     rw (n .2, n .3)
-    (known-next a r (p .1) (p .0) _ (omega (arith, n .1)) (looked-up a r (p .1) (p .0) (c .before .before .before .before .before .before .before .before .before .before .content .ensures) (n .0)) (c .known .ensures .0) (c .known .ensures .1))
+    (known-next a r (p .1) (p .0) _ (omega (arith, n .1)) (looked-up a r (p .1) (p .0) (c .before .before .before .before .before .before .before .before .before .before .before .content .ensures) (n .0)) (c .known .ensures .0) (c .known .ensures .1))
 
 returns-3 : tie.Need-returns-3
 returns-3 c = λ xs a.
-    let p = c .before .before .before .before .before .before .before .before .before .before .before .pre in
+    let p = c .before .before .before .before .before .before .before .before .before .before .before .before .pre in
     let n = rw (c .before .before .enum-told .given .1) at (c .before .before .before .before .note .ensures) in
-    let u = ap utf8 (sym (c .before .before .before .before .before .before .before .before .before .content .ensures)) ∙ sym (c .before .before .before .before .before .before .before .before .is-utf8 .ensures) ∙ not-false (c .before .before .before .before .before .before .before .if1 .left) in
-    fresh-next a (c .before .before .before .before .before .before .before .before .before .before .before .args .row) (p .1) (p .0) _ _ (c .before .before .before .before .before .before .before .before .before .content .ensures) u n (c .fresh .ensures .0) (c .fresh .ensures .1)
+    let u = ap utf8 (sym (c .before .before .before .before .before .before .before .before .before .before .content .ensures)) ∙ sym (c .before .before .before .before .before .before .before .before .before .is-utf8 .ensures) ∙ not-false (c .before .before .before .before .before .before .before .before .if1 .left) in
+    fresh-next a (c .before .before .before .before .before .before .before .before .before .before .before .before .args .row) (p .1) (p .0) _ _ (c .before .before .before .before .before .before .before .before .before .before .content .ensures) u n (c .fresh .ensures .0) (c .fresh .ensures .1)
 
 returns-4 : tie.Need-returns-4
 returns-4 c = λ xs a.
-    let p = c .before .before .before .before .before .before .before .before .before .before .pre in
-    let r = c .before .before .before .before .before .before .before .before .before .before .args .row in
+    let p = c .before .before .before .before .before .before .before .before .before .before .before .pre in
+    let r = c .before .before .before .before .before .before .before .before .before .before .before .args .row in
     let w = p .1 in
     let n = rw (c .before .enum-told2 .given .1) at (c .before .before .before .note .ensures) in
-    let u = ap utf8 (sym (c .before .before .before .before .before .before .before .before .content .ensures)) ∙ sym (c .before .before .before .before .before .before .before .is-utf8 .ensures) ∙ not-false (c .before .before .before .before .before .before .if1 .left) in
-    let e = looked-up a r w (p .0) (c .before .before .before .before .before .before .before .before .content .ensures) (n .0) in
+    let u = ap utf8 (sym (c .before .before .before .before .before .before .before .before .before .content .ensures)) ∙ sym (c .before .before .before .before .before .before .before .before .is-utf8 .ensures) ∙ not-false (c .before .before .before .before .before .before .before .if1 .left) in
+    let e = looked-up a r w (p .0) (c .before .before .before .before .before .before .before .before .before .content .ensures) (n .0) in
     refuse-next a r 8 (c .refuse2 .ensures) (λ z. omega arith) error-8 (fresh-full a r (w .name) (w .fine) (w .alone) (among a r w (p .0) e) u (n .1))
 
 pub looked-up-spec : {M : Type 1} → statement M
@@ -91,6 +96,7 @@ looked-up-spec =
     is-utf8-requires
     refuse-requires
     returns
+    key-of-requires
     note-requires
     enum-known-i
     cast-known
