@@ -3,7 +3,7 @@ use mathlib.Core.Path.{_≡_, refl, ap, sym, _∙_}
 use mathlib.Core.Bool.{true, false}
 use mathlib.Core.List.{List, [], _∷_, _++_, map}
 use mathlib.Core.Option.{Option, none, some}
-use Prim.Native.Nat.{ℕ, _+_, _-_, _*_, _≤_, _<_}
+use Prim.Native.Nat.{ℕ, _+_, _-_, _≤_, _<_}
 use native.Mathlib.Omega.{arith}
 use lib.ListN.{length, take, drop, set, length-drop, length-set}
 use lib.Seq.{length-take-le}
@@ -14,7 +14,7 @@ use Rattle.format.specs.Names.{index, isSome}
 use Rattle.format.specs.Reading.{Found, itemsOf}
 use Rattle.format.proofs.Tests.{clash}
 use Rattle.format.proofs.Names.{item-path}
-use Rattle.symbols.specs.Entry.{partIn, nameIn, namesIn, name, Part, sideOf}
+use Rattle.symbols.specs.Entry.{plainEntry, partIn, nameIn, namesIn, name, Part, sideOf}
 use Rattle.symbols.specs.Noting as noting
 use Rattle.symbols.proofs.EntryLaws.{Packed, packed-plain, side-both}
 use Rattle.reader.specs.declared.item.Out.{Out}
@@ -44,18 +44,19 @@ module _ (s es : List ℕ) (names kind next e : ℕ) (lo : 10 ≤ kind) (hi : ki
   -- ---- leniently
 
   abbrev plain : ℕ
-  plain = next * 562949953421312 + ((e - next) * 2 + (kind - 10))
+  plain = plainEntry kind next (e - next)
 
   pub plain-full : (links : List ℕ) {r : Out} → 256 ≤ names → r ≡ out.Bad TooManyEntries → Entered false s es es links names kind next e r
   unfolding _&&_
   plain-full links l q = full refl l q
 
-  pub plain-entered : (links : List ℕ) {r : Out} → names < 256 → r ≡ freshOf kind e → Entered false s es (set es names plain) links names kind next e r
+  pub plain-entered : (links : List ℕ) {v : ℕ} {r : Out} → v ≡ plain → names < 256 → r ≡ freshOf kind e → Entered false s es (set es names v) links names kind next e r
   unfolding _&&_
-  plain-entered links l q =
+  plain-entered links ev l q =
       let p : Packed plain next 0 (e - next) kind = packed-plain next (e - next) kind (omega arith) lo hi in
-      entered refl l q (entries-more s es names size (omega arith) plain l ∙ ap (λ (x : Found). entriesOf s es names ++ (x ∷ [])) (found-packed s p))
-      (record { few = omega arith; size = length-set es names plain ∙ size; chained = λ z. clash z refl })
+      rw ev
+      (entered refl l q (entries-more s es names size (omega arith) plain l ∙ ap (λ (x : Found). entriesOf s es names ++ (x ∷ [])) (found-packed s p))
+      (record { few = omega arith; size = length-set es names plain ∙ size; chained = λ z. clash z refl }))
 
   -- ---- strictly
 

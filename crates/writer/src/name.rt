@@ -3,10 +3,10 @@ ghost use mathlib.Core.Path.{_≡_};
 ghost use mathlib.Core.Bool.{true};
 ghost use mathlib.Core.List.{List};
 ghost use Prim.Native.Nat.{ℕ, _+_, _-_, _%_, _≤_, _<_};
-ghost use lib.Dec.{eqb, ltb};
+ghost use lib.Dec.{ltb};
 ghost use lib.ListN.{length, set};
 ghost use Rattle.format.specs.declared.row.Row.{Row};
-ghost use Rattle.format.specs.Choice.{_&&_, _||_};
+ghost use Rattle.format.specs.Choice.{_||_};
 ghost use Rattle.format.specs.Header.{header};
 ghost use Rattle.symbols.specs.Chains.{Chained};
 ghost use Rattle.writer.specs.Judging.{After, Next, Ready};
@@ -27,6 +27,7 @@ use symbols::lookup::Links;
 use symbols::lookup::Noted;
 use symbols::lookup::note;
 use wire::header::header_len;
+use wire::rules::key_after_key;
 use wire::utf8::is_utf8;
 
 // For each row that is a name its reference, and then guesses: the entry of a name that begins at a place in the text, if it is still there.
@@ -49,16 +50,6 @@ fn is_bad(len: usize, row: Row) -> bool
         return true;
     }
     outside(len, row.start, row.number)
-}
-
-// A key after a key.
-fn again(keyed: usize, kind: u8) -> bool
-    ensures { λ r. ⌜ r ≡ (eqb keyed 1 && eqb kind 11) ⌝ }
-{
-    if keyed != 1 {
-        return false;
-    }
-    kind == Row::MAX_KIND
 }
 
 // Does an entry stand for this part of the text?
@@ -169,7 +160,7 @@ pub fn name_row(
         return refuse(s, Error::InvalidRow);
     }
     let kind = row.kind;
-    if again(s.keyed, kind) {
+    if key_after_key(s.keyed, kind) {
         return refuse(s, Error::UnexpectedKey);
     }
     let start = row.start;
