@@ -27,16 +27,16 @@ pub enum Written {
 }
 
 // How many rows are to be judged: none where there are too many, or the text is too long.
-fn limit(rows: usize, text: usize) -> usize
-    ensures { λ r. ⌜ r ≡ limitOf rows text ⌝ }
+fn limit(count: usize, len: usize) -> usize
+    ensures { λ r. ⌜ r ≡ limitOf count len ⌝ }
 {
-    if Row::MAX_COUNT < rows {
+    if Row::MAX_COUNT < count {
         return 0;
     }
-    if Bundle::MAX_BYTES < text {
+    if Bundle::MAX_BYTES < len {
         return 0;
     }
-    rows
+    count
 }
 
 // The error of a row, by its number.
