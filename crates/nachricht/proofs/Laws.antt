@@ -23,7 +23,8 @@ use Rattle.reader.specs.declared.checking.Checked.{Checked}
 use Rattle.reader.specs.declared.checking.Checked.the-variants.{Failed, Good}
 use Rattle.reader.specs.Answers.{answerOf}
 use Rattle.writer.specs.declared.writing.Written.the-variants.{Done}
-use Rattle.nachricht.specs.Laws.{Read, RewritesCanonically, WrittenReadsBack, Wrote}
+use Rattle.writer.specs.Promises.{Wrote}
+use Rattle.nachricht.specs.Laws.{Read, RewritesCanonically, WrittenReadsBack}
 
 -- ---- what a good answer leaves
 

@@ -12,20 +12,16 @@ use Rattle.format.specs.WellFormed.{All, Bytes}
 use Rattle.format.specs.Reading.{counts, items, options}
 use Rattle.format.specs.Rows.{itemsAt, rows}
 use Rattle.format.specs.Canonical.{canonical}
-use Rattle.format.specs.Writing.{fitted, writing}
+use Rattle.format.specs.Writing.{fitted}
 use Rattle.reader.specs.declared.checking.Checked.{Checked}
 use Rattle.reader.specs.declared.checking.Checked.the-variants.{Good}
 use Rattle.reader.specs.Answers as reader
 use Rattle.writer.specs.declared.writing.Written.{Written}
 use Rattle.writer.specs.declared.writing.Written.the-variants.{Done}
 use Rattle.writer.specs.Answers as writer
+use Rattle.writer.specs.Promises.{Wrote}
 
 -- ---- what the functions promise
-
--- `writer::write` of the rows `rs` over a text, into a buffer that held `old`: it answers `w` and leaves `new`. The parts are its two `ensures`.
-pub record Wrote (rs : List Row) (text old : List ℕ) (w : Written) (new : List ℕ) : Type 0 where
-  pub answer : writer.answerOf w ≡ counted (writing rs text (length old))
-  pub buffer : new ≡ stored old (writing rs text (length old))
 
 -- `reader::read_in` of bytes, into a table of rows: it answers `r` and leaves `table′`. The parts are its two `ensures`, and in lenient mode those of `read`.
 pub record Read (mode : Mode) (bytes : List ℕ) (table : List Row) (r : Checked) (table′ : List Row) : Type 0 where

@@ -7,11 +7,12 @@ ghost use lib.Dec.{eqb, ltb};
 ghost use lib.ListN.{length, take};
 ghost use Rattle.format.specs.declared.row.Row.{Row};
 ghost use Rattle.format.specs.Choice.{_||_};
-ghost use Rattle.format.specs.Answer.{counted, stored};
+ghost use Rattle.format.specs.Answer.{counted};
 ghost use Rattle.format.specs.Error.{codeOf};
 ghost use Rattle.format.specs.Writing.{writing};
 ghost use Rattle.writer.specs.Judging.{Verdict, isRowError};
 ghost use Rattle.writer.specs.Answers.{answerOf, limitOf, rowsIn};
+ghost use Rattle.writer.specs.Promises.{Wrote};
 use crate::judging::judge;
 use crate::name::Plan;
 use crate::putting::put;
@@ -99,8 +100,7 @@ fn count_of(answer: Written, n: usize) -> usize
 
 // Writes the canonical encoding of rows over a text; on an error no byte is changed.
 pub fn write(rows: &[Row], text: &[u8], out: &mut [u8]) -> Written
-    ensures answer { λ r. ⌜ answerOf r ≡ counted (writing (now (rows .entry)) (now (text .entry)) (length (now (out .entry)))) ⌝ }
-    ensures buffer { λ _. ⌜ now (out .exit) ≡ stored (now (out .entry)) (writing (now (rows .entry)) (now (text .entry)) (length (now (out .entry)))) ⌝ }
+    ensures { λ r. ⌜ Wrote (now (rows .entry)) (now (text .entry)) (now (out .entry)) r (now (out .exit)) ⌝ }
 {
     let mut plan = [0u16; Plan::SIZE];
     let n = limit(rows.len(), text.len());
