@@ -23,7 +23,9 @@ use Rattle.reader.specs.declared.checking.Checked.{Checked}
 use Rattle.reader.specs.declared.checking.Checked.the-variants.{Failed, Good}
 use Rattle.reader.specs.Answers.{answerOf}
 use Rattle.writer.specs.declared.writing.Written.the-variants.{Done}
-use Rattle.nachricht.specs.Laws.{Read, RewritesCanonically, WrittenReadsBack, Wrote}
+use Rattle.reader.specs.Promises.{Read}
+use Rattle.writer.specs.Promises.{Wrote}
+use Rattle.nachricht.specs.Laws.{RewritesCanonically, WrittenReadsBack}
 
 -- ---- what a good answer leaves
 

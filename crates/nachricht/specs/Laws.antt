@@ -9,28 +9,17 @@ use Rattle.format.specs.declared.row.Row.{Row}
 use Rattle.format.specs.Answer.{counted, good, stored}
 use Rattle.format.specs.Item.{Item}
 use Rattle.format.specs.WellFormed.{All, Bytes}
-use Rattle.format.specs.Reading.{counts, items, options}
-use Rattle.format.specs.Rows.{itemsAt, rows}
+use Rattle.format.specs.Reading.{items, options}
+use Rattle.format.specs.Rows.{itemsAt}
 use Rattle.format.specs.Canonical.{canonical}
-use Rattle.format.specs.Writing.{fitted, writing}
+use Rattle.format.specs.Writing.{fitted}
 use Rattle.reader.specs.declared.checking.Checked.{Checked}
 use Rattle.reader.specs.declared.checking.Checked.the-variants.{Good}
-use Rattle.reader.specs.Answers as reader
+use Rattle.reader.specs.Promises.{Read}
 use Rattle.writer.specs.declared.writing.Written.{Written}
 use Rattle.writer.specs.declared.writing.Written.the-variants.{Done}
 use Rattle.writer.specs.Answers as writer
-
--- ---- what the functions promise
-
--- `writer::write` of the rows `rs` over a text, into a buffer that held `old`: it answers `w` and leaves `new`. The parts are its two `ensures`.
-pub record Wrote (rs : List Row) (text old : List ℕ) (w : Written) (new : List ℕ) : Type 0 where
-  pub answer : writer.answerOf w ≡ counted (writing rs text (length old))
-  pub buffer : new ≡ stored old (writing rs text (length old))
-
--- `reader::read_in` of bytes, into a table of rows: it answers `r` and leaves `table′`. The parts are its two `ensures`, and in lenient mode those of `read`.
-pub record Read (mode : Mode) (bytes : List ℕ) (table : List Row) (r : Checked) (table′ : List Row) : Type 0 where
-  pub answer : reader.answerOf r ≡ counts (options mode (length table)) bytes
-  pub filled : table′ ≡ stored table (rows (options mode (length table)) bytes)
+use Rattle.writer.specs.Promises.{Wrote}
 
 -- A row's number is a word, which its type `u64` says, as `u8` says that text is bytes.
 abbrev pub Word : Row → Type 0

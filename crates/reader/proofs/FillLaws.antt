@@ -4,7 +4,7 @@ use mathlib.Core.Logic.{_≢_}
 use mathlib.Core.Bool.{false}
 use mathlib.Core.List.{List}
 use mathlib.Core.Option.{none, some}
-use Prim.Native.Nat.{ℕ, _+_, _-_, _*_, _%_, _^_, _≤_, _<_, min}
+use Prim.Native.Nat.{ℕ, _+_, _-_, _%_, _^_, _≤_, _<_, min}
 use native.Mathlib.Omega.{arith}
 use lib.Dec.{leb, ltb}
 use lib.ListN.{length, drop, set, getD, length-drop}
@@ -16,7 +16,8 @@ use Rattle.format.specs.Reading.{Form, fixed, content, formOf}
 use Rattle.format.proofs.Tests.{order, equal, eqb-yes, eqb-no, leb-yes, leb-no, ltb-yes, ltb-no, and-yes, and-no-left, and-no-right, pick-yes, pick-no}
 use Rattle.format.proofs.Headers.{size-within}
 use Rattle.reader.specs.declared.fill.Filled.{Filled}
-use Rattle.reader.specs.Filling.{rowOf, fixedRow, entryRow, packed, filledForm, tableForm, filledAt, tableAt, filledNext, tableNext, blank}
+use Rattle.symbols.specs.Entry.{plainEntry}
+use Rattle.reader.specs.Filling.{rowOf, fixedRow, entryRow, filledForm, tableForm, filledAt, tableAt, filledNext, tableNext, blank}
 use Rattle.reader.proofs.Flat.{form-reference}
 use Rattle.reader.proofs.Heads.{standing}
 
@@ -80,11 +81,11 @@ module _ (es : List ℕ) (next names p k : ℕ) {n : ℕ} {r : Row} (size : n �
   pub content-full : 256 ≤ names → Fills es next names p (content k) (with-names names) es
   content-full l = kept (and-no-right _ (ltb-no l))
 
-  pub content-entered : 10 ≤ k → names < 256 → Fills es next names p (content k) (with-names (names + 1)) (set es names (next * 562949953421312 + (n * 2 + (k - 10))))
-  unfolding tableForm packed
-  content-entered h l =
+  pub content-entered : {v : ℕ} → v ≡ plainEntry k next n → 10 ≤ k → names < 256 → Fills es next names p (content k) (with-names (names + 1)) (set es names v)
+  unfolding tableForm
+  content-entered ev h l =
       let e = and-yes (leb-yes {a = 10} {b = k} h) (ltb-yes {a = names} {b = 256} l) in
-      (content-is (names + 1) (pick-yes _ _ e), sym (rw (e, ← size) (pick-yes _ _ refl)))
+      (content-is (names + 1) (pick-yes _ _ e), sym (rw (e, ← size, ev) (pick-yes _ _ refl)))
 
 module _ (es : List ℕ) (next names : ℕ) (h : Header) where
   pub by-form : {f : Form} {r : Filled} {l : List ℕ} → formOf h ≡ f → Fills es next names (h .payload) f r l → Fills es next names (h .payload) (formOf h) r l

@@ -22,12 +22,12 @@ use Rattle.format.proofs.Forms.{FormIs, held, form-is}
 use Rattle.format.proofs.Steps.{Step, Reads, done, more, step-drop, step-found}
 use Rattle.format.proofs.Bounds.{reads-rows}
 use Rattle.format.proofs.ReadBack.{reading-reads}
-use Rattle.symbols.specs.Entry.{nameIn}
+use Rattle.symbols.specs.Entry.{plainEntry, nameIn}
 use Rattle.symbols.proofs.EntryLaws.{Packed, packed-plain}
 use Rattle.reader.specs.declared.fill.Filled.{Filled}
 use Rattle.reader.specs.Judging.{foundIn, entriesOf, partOf}
 use Rattle.reader.specs.Answers.{rowsIn}
-use Rattle.reader.specs.Filling.{packed, entryRow, filledForm, tableForm, filledAt, tableAt, filledNext, tableNext, rowsFrom, begin}
+use Rattle.reader.specs.Filling.{entryRow, filledForm, tableForm, filledAt, tableAt, filledNext, tableNext, rowsFrom, begin}
 use Rattle.reader.proofs.Entries.{length-entries, entry-none, entry-is, entries-more}
 use Rattle.reader.proofs.NameEntry.{found-packed}
 
@@ -76,10 +76,10 @@ module _ (bytes : List ℕ) (short : length bytes ≤ max-bytes) where
       by-plain n = (row, ap (_+_ next) exact, rw (name-is, n) t)
 
       by-name : leb 10 k ≡ true → names < 256 → Fills (content k)
-      unfolding filledForm tableForm isContent _&&_ pick packed
+      unfolding filledForm tableForm isContent _&&_ pick
       by-name n l =
-          let p : Packed (packed k next (h .payload)) next 0 (h .payload) k = packed-plain next (h .payload) k within (leb-true 10 k n) hi in
-          let entry = packed k next (h .payload) in
+          let p : Packed (plainEntry k next (h .payload)) next 0 (h .payload) k = packed-plain next (h .payload) k within (leb-true 10 k n) hi in
+          let entry = plainEntry k next (h .payload) in
           let q : E ++ (x ∷ []) ≡ entriesOf bytes (set es names entry) (names + 1) =
           ap₂ (λ (l : List Found) (y : Found). l ++ (y ∷ [])) (t .is) (sym e ∙ sym (found-packed bytes p)) ∙ sym (entries-more bytes es names (t .size) (t .few) entry l) in
           (row, ap (_+_ next) exact, rw (name-is, n, ltb-yes {a = names} {b = 256} l, exact) (record { few = omega arith; size = length-set es names entry ∙ t .size; is = q }))

@@ -36,6 +36,7 @@ use Rattle.format.proofs.error.Mode as D
 use Rattle.format.proofs.error.Mode.Laws as D′
 use Rattle.reader.specs.declared.checking.Checked.{Checked}
 use Rattle.reader.specs.Answers.{answerOf}
+use Rattle.reader.specs.Promises.{Read}
 use Rattle.reader.proofs.checking.Checked as N
 use Rattle.reader.proofs.reading.read_in as read-in
 
@@ -75,8 +76,8 @@ module _ {M : Type 1} {𝓤 : URA M} {H : Heap 𝓤} {A : Atoms 𝓤} {K : Type 
       calls-at t fm (ReadIn 𝓤 H A mem run) met (to-read-in 𝓤 H A mem run κ κ′ q q′ bx rx m mv) os (λ u.
       use1 W (later (some (λ (r : Checked). (Tokens 𝓤 κ κ′ q q′ ⊛ ‵ (N.the-row .own r (u ∷ []))) ⊛ raw (ensured 𝓤 H A read-in.ended (read-in.clauses 𝓤 H A mem run) (κ, (κ′, tt)) (bx, (m, (rx, tt))) tt r)))) (id⊢ 𝓤 _) $ await t tt $ pick t (λ r.
       split t $ move t (1 ∷ []) $ use1 W (some (λ (ws : Unit {0} × (Unit {0} × (List Row × Unit {0}))). ‵ (lasts read-in.ended (κ, (κ′, tt)) (bx, (m, (rx, tt))) ws)
-      ⊛ (raw (fact 𝓤 (answerOf r ≡ counts (options m (length (rx .now))) (bx .now))) ⊛ raw (fact 𝓤 (ws .1 .1 .0 ≡ stored (rx .now) (table.rows (options m (length (rx .now))) (bx .now))))))) (id⊢ 𝓤 _) $ pick t (λ ws.
-      split t $ move t (1 ∷ []) $ split t $ heard t (answerOf r ≡ counts (options m (length (rx .now))) (bx .now)) (λ e. heard t (ws .1 .1 .0 ≡ stored (rx .now) (table.rows (options m (length (rx .now))) (bx .now))) (λ e′.
+      ⊛ raw (fact 𝓤 (Read m (bx .now) (rx .now) r (ws .1 .1 .0))))) (id⊢ 𝓤 _) $ pick t (λ ws.
+      split t $ move t (1 ∷ []) $ heard t (Read m (bx .now) (rx .now) r (ws .1 .1 .0)) (λ e.
       fsplit t $ drop t $ fsplit t $ drop t $ fsplit t $ fsplit t $ move t (1 ∷ []) $ feqL t (λ len.
       -- [the last rows; true; the tokens and the result; …]
-      move t (2 ∷ []) $ split t $ move t (1 ∷ []) $ facts t N.the-row (Is N.the-row) (shows 𝓤 H A N.the-row) r (u ∷ []) (λ is. move t (2 ∷ []) $ drop t $ k r u (ws .1 .1 .0) is e e′ len)))))))
+      move t (2 ∷ []) $ split t $ move t (1 ∷ []) $ facts t N.the-row (Is N.the-row) (shows 𝓤 H A N.the-row) r (u ∷ []) (λ is. move t (2 ∷ []) $ drop t $ k r u (ws .1 .1 .0) is (e .answer) (e .filled) len))))))

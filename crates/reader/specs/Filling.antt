@@ -1,6 +1,6 @@
 -- The second pass of reading: the row of the next item, and the table after it. Lengths and indices are cut down where the code has to be safe
 -- without knowing that the bundle reads; in one that does this changes nothing.
-use Prim.Native.Nat.{ℕ, zero, suc, _+_, _-_, _*_, _%_, _^_, min}
+use Prim.Native.Nat.{ℕ, zero, suc, _+_, _-_, _%_, _^_, min}
 use mathlib.Core.List.{List, [], _∷_}
 use mathlib.Core.Option.{Option, none, some}
 use lib.Dec.{leb, ltb, eqb}
@@ -10,7 +10,7 @@ use Rattle.format.specs.declared.row.Row.{Row}
 use Rattle.format.specs.Choice.{pick, _&&_}
 use Rattle.format.specs.Header.{headerOf}
 use Rattle.format.specs.Reading.{Form, fixed, content, reference, formOf}
-use Rattle.symbols.specs.Entry.{kindIn, lengthIn, startIn}
+use Rattle.symbols.specs.Entry.{plainEntry, kindIn, lengthIn, startIn}
 use Rattle.reader.specs.declared.fill.Filled.{Filled}
 
 abbrev pub rowOf : ℕ → ℕ → ℕ → Row
@@ -25,10 +25,6 @@ fixedRow h =
 unfoldable pub entryRow : List ℕ → ℕ → Row
 entryRow es p = let e = getD es (p % 256) 0 in rowOf (kindIn e) (lengthIn e) (startIn e)
 
--- The entry of a name, with no mark.
-unfoldable pub packed : ℕ → ℕ → ℕ → ℕ
-packed kind next len = next * 562949953421312 + (len * 2 + (kind - 10))
-
 -- By the form of a header, where next is its end and p its payload.
 unfoldable pub filledForm : List ℕ → ℕ → ℕ → ℕ → Form → Filled
 filledForm es next names p (fixed k n) = record { at = next; names = names; row = rowOf k n 0 }
@@ -38,7 +34,7 @@ filledForm es next names p reference = record { at = next; names = names; row = 
 
 unfoldable pub tableForm : List ℕ → ℕ → ℕ → ℕ → Form → List ℕ
 tableForm es next names p (fixed k n) = es
-tableForm es next names p (content k) = pick (leb 10 k && ltb names 256) (set es names (packed k next (p % 32768))) es
+tableForm es next names p (content k) = pick (leb 10 k && ltb names 256) (set es names (plainEntry k next (p % 32768))) es
 tableForm es next names p reference = es
 
 abbrev pub blank : Row

@@ -3,3 +3,4 @@ pub mod Judging
 pub mod Lanes
 pub mod Answers
 pub mod Filling
+pub mod Promises

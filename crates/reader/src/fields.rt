@@ -1,9 +1,8 @@
 // The recursive reader: n fields, each a value, or a key and its value, with all that a container holds.
 ghost use mathlib.Core.Path.{_≡_};
-ghost use mathlib.Core.Bool.{Bool, true, false};
-ghost use mathlib.Core.List.{List};
+ghost use mathlib.Core.Bool.{Bool, false};
 ghost use Prim.Native.Nat.{ℕ, _+_, _-_, _≤_, _<_, min};
-ghost use lib.ListN.{length, drop};
+ghost use lib.ListN.{length};
 ghost use Rattle.format.specs.Limits.{max-rows};
 ghost use Rattle.format.specs.Place.{Place};
 ghost use Rattle.format.specs.Reading.{Options, State};

@@ -10,6 +10,7 @@ use format::Bundle;
 use format::Header;
 use format::Row;
 use format::SymbolTable;
+use symbols::entry::plain_entry;
 use wire::header::Head;
 
 // A row, with the offset of the next item and the count of entries after it.
@@ -81,7 +82,7 @@ fn content_row(
             row: Row::new(kind, p, next),
         };
     }
-    entries[names] = next as u64 * 562949953421312 + (len as u64 * 2 + (kind as u64 - 10));
+    entries[names] = plain_entry(kind, next, len);
     Filled {
         at: next + len,
         names: names + 1,

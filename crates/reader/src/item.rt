@@ -1,14 +1,13 @@
 // One item, judged by the rules of reading in their order.
 ghost use mathlib.Core.Path.{_≡_};
-ghost use mathlib.Core.Bool.{Bool, true, false, not};
+ghost use mathlib.Core.Bool.{Bool, true, false};
 ghost use mathlib.Core.List.{List};
-ghost use mathlib.Core.Option.{some, none};
+ghost use mathlib.Core.Option.{some};
 ghost use Prim.Native.Nat.{ℕ, _+_, _-_, _≤_, _<_};
-ghost use lib.Dec.{eqb, leb};
-ghost use lib.ListN.{length, take, drop};
+ghost use lib.Dec.{leb};
+ghost use lib.ListN.{length, drop};
 ghost use Rattle.format.specs.Choice.{_&&_, _||_};
 ghost use Rattle.format.specs.Header.{headerOf, isLong, isNegativeAlias};
-ghost use Rattle.format.specs.Utf8.{utf8};
 ghost use Rattle.format.specs.Reading.{Options, State, headed, item};
 ghost use Rattle.symbols.specs.Chains.{Chained};
 ghost use Rattle.reader.specs.Judging.{Fair, Moved, Moves, Stands, Judged, Case, Body, Name, freshOf, Entered};
@@ -17,9 +16,14 @@ use format::Error;
 use format::FieldCount;
 use format::Header;
 use format::SymbolTable;
+use symbols::entry::key_of;
+use symbols::entry::plain_entry;
 use symbols::lookup::Links;
-use symbols::lookup::Lookup;
+use symbols::lookup::Noted;
+use symbols::lookup::note;
 use wire::header::Head;
+use wire::rules::bad_text;
+use wire::rules::key_after_key;
 
 // What one item is, with the offset of the next.
 pub enum Out {
@@ -105,16 +109,6 @@ fn reference(
     Out::Key(next)
 }
 
-// A string that is not UTF-8; bytes pass.
-fn bad_text(code: u8, part: &[u8]) -> bool
-    ensures { λ r. ⌜ r ≡ (eqb code 4 && not (utf8 (now (part .entry)))) ⌝ }
-{
-    if code == 4 {
-        return !wire::utf8::is_utf8(part);
-    }
-    false
-}
-
 // Bytes or a string.
 fn content(s: &[u8], h: Header, next: usize) -> Out
     requires { ⌜ Body h × (next ≤ length (now s)) × (length (now s) ≤ 16384) ⌝ }
@@ -128,7 +122,7 @@ fn content(s: &[u8], h: Header, next: usize) -> Out
         return Out::Bad(Error::Truncated);
     }
     let e = next + p as usize;
-    if bad_text(h.code, &s[next..e]) {
+    if bad_text(h.code == 4, &s[next..e]) {
         return Out::Bad(Error::InvalidUtf8);
     }
     Out::Value(e)
@@ -142,16 +136,6 @@ fn fresh(kind: u8, next: usize) -> Out
         return Out::NewKey(next);
     }
     Out::NewSymbol(next)
-}
-
-// A key after a key.
-fn again(keyed: usize, kind: u8) -> bool
-    ensures { λ r. ⌜ r ≡ (eqb keyed 1 && eqb kind 11) ⌝ }
-{
-    if keyed != 1 {
-        return false;
-    }
-    kind == 11
 }
 
 // Strict only: a name in full, which must be new, is put into the table.
@@ -168,23 +152,11 @@ fn new_name(
     ensures { λ r. ⌜ Entered true (now (s .entry)) (now (entries .entry)) (now (entries .exit)) (now (links .exit)) names kind next e r ⌝ }
 {
     let part = &s[next..e];
-    let key = symbols::entry::key_of(kind, part);
-    match symbols::lookup::find(s, s, entries, links, names, kind, key, part) {
-        Lookup::At(_) => Out::Bad(Error::NotCanonical),
-        Lookup::Nothing => {
-            if SymbolTable::MAX_ENTRIES <= names {
-                return Out::Bad(Error::TooManyEntries);
-            }
-            symbols::lookup::enter(
-                s,
-                s,
-                entries,
-                links,
-                names,
-                next as u64 * 562949953421312 + key,
-            );
-            fresh(kind, e)
-        }
+    let key = key_of(kind, part);
+    match note(s, s, entries, links, names, kind, key, 0, next, part) {
+        Noted::Known(_) => Out::Bad(Error::NotCanonical),
+        Noted::Entered => fresh(kind, e),
+        Noted::Full => Out::Bad(Error::TooManyEntries),
     }
 }
 
@@ -203,7 +175,7 @@ fn any_name(
     if SymbolTable::MAX_ENTRIES <= names {
         return Out::Bad(Error::TooManyEntries);
     }
-    entries[names] = next as u64 * 562949953421312 + ((e - next) as u64 * 2 + (kind as u64 - 10));
+    entries[names] = plain_entry(kind, next, e - next);
     fresh(kind, e)
 }
 
@@ -224,7 +196,7 @@ fn name(
         → Judged o (now (s .entry)) (now (entries .exit)) names a (headed o a (some h) (drop at (now (s .entry)))) r) ⌝ }
 {
     let kind = h.code + 5;
-    if again(keyed, kind) {
+    if key_after_key(keyed, kind) {
         return Out::Bad(Error::UnexpectedKey);
     }
     let len = ByteLength::of(h);

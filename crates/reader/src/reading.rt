@@ -4,12 +4,11 @@ ghost use Prim.Native.Nat.{_≤_, _<_, min};
 ghost use mathlib.Core.List.{_++_};
 ghost use lib.ListN.{length, drop, replicate};
 ghost use Rattle.format.specs.declared.error.Mode.the-variants.{Lenient};
-ghost use Rattle.format.specs.Answer.{stored};
 ghost use Rattle.format.specs.Limits.{max-rows};
 ghost use Rattle.format.specs.Reading.{options, counts};
-ghost use Rattle.format.specs.Rows as table;
 ghost use Rattle.reader.specs.Answers.{answerOf, rowsIn};
 ghost use Rattle.reader.specs.Filling.{rowsFrom, begin};
+ghost use Rattle.reader.specs.Promises.{Read};
 use crate::checking::Checked;
 use crate::fill::fill;
 use format::Mode;
@@ -54,16 +53,14 @@ fn count_of(answer: Checked) -> usize
 
 // Reads a bundle leniently.
 pub fn read(bytes: &[u8], rows: &mut [Row]) -> Checked
-    ensures answer { λ r. ⌜ answerOf r ≡ counts (options Lenient (length (now (rows .entry)))) (now (bytes .entry)) ⌝ }
-    ensures filled { λ _. ⌜ now (rows .exit) ≡ stored (now (rows .entry)) (table.rows (options Lenient (length (now (rows .entry)))) (now (bytes .entry))) ⌝ }
+    ensures { λ r. ⌜ Read Lenient (now (bytes .entry)) (now (rows .entry)) r (now (rows .exit)) ⌝ }
 {
     read_in(bytes, Mode::default(), rows)
 }
 
 // Reads a bundle: its counts, with its rows in the first places of the table; on an error no row is changed.
 pub fn read_in(bytes: &[u8], mode: Mode, rows: &mut [Row]) -> Checked
-    ensures answer { λ r. ⌜ answerOf r ≡ counts (options mode (length (now (rows .entry)))) (now (bytes .entry)) ⌝ }
-    ensures filled { λ _. ⌜ now (rows .exit) ≡ stored (now (rows .entry)) (table.rows (options mode (length (now (rows .entry)))) (now (bytes .entry))) ⌝ }
+    ensures { λ r. ⌜ Read mode (now (bytes .entry)) (now (rows .entry)) r (now (rows .exit)) ⌝ }
 {
     let answer = counted(bytes, mode, rows.len());
     filled_in(bytes, rows, count_of(answer));

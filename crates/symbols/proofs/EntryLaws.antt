@@ -10,7 +10,7 @@ use Rattle.format.specs.Names.{same, sameName}
 use Rattle.format.proofs.Tests.{cases, equal, eqb-yes, eqb-no, eqb-true, and-true, pick-yes, pick-no}
 use Rattle.format.proofs.Names.{same-true, item-path}
 use Rattle.symbols.specs.Mark.{markOf}
-use Rattle.symbols.specs.Entry.{keyOf, keyIn, kindIn, lengthIn, sideIn, startIn, sideOf, partIn, name, nameIn, Sound}
+use Rattle.symbols.specs.Entry.{keyOf, plainEntry, keyIn, kindIn, lengthIn, sideIn, startIn, sideOf, partIn, name, nameIn, Sound}
 use Rattle.symbols.proofs.MarkLaws.{mark-lt}
 
 -- ---- keys
@@ -66,8 +66,8 @@ pub packed : (e start side m len kind : ℕ) → e ≡ (start * 2 + side) * 2814
 packed e start side m len kind is ml si short lo hi =
     record { start-is = omega arith; side-is = omega arith; length-is = omega arith; kind-is = omega arith }
 
--- with no mark, as lenient reading stores it
-pub packed-plain : (start len kind : ℕ) → len ≤ 16384 → 10 ≤ kind → kind ≤ 11 → Packed (start * 562949953421312 + (len * 2 + (kind - 10))) start 0 len kind
+-- with no mark
+pub packed-plain : (start len kind : ℕ) → len ≤ 16384 → 10 ≤ kind → kind ≤ 11 → Packed (plainEntry kind start len) start 0 len kind
 packed-plain start len kind = packed _ start 0 0 len kind (omega arith) (omega arith) (omega arith)
 
 -- with a name's mark

@@ -12,6 +12,10 @@ use Rattle.symbols.specs.Mark.{markOf}
 abbrev pub keyOf : ℕ → List ℕ → ℕ
 keyOf kind content = markOf content * 65536 + (length content * 2 + (kind - 10))
 
+-- With no mark, and the side 0.
+abbrev pub plainEntry : ℕ → ℕ → ℕ → ℕ
+plainEntry kind start len = start * 562949953421312 + (len * 2 + (kind - 10))
+
 -- ---- what an entry packs
 
 abbrev pub keyIn : ℕ → ℕ

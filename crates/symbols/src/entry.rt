@@ -3,7 +3,7 @@ ghost use mathlib.Core.Path.{_≡_};
 ghost use Prim.Native.Nat.{_+_, _*_, _<_, _≤_};
 ghost use lib.ListN.{length, take, drop};
 ghost use Rattle.format.specs.Names.{sameName};
-ghost use Rattle.symbols.specs.Entry.{keyOf, sideOf, partIn, nameIn, name, Sound};
+ghost use Rattle.symbols.specs.Entry.{keyOf, plainEntry, sideOf, partIn, nameIn, name, Sound};
 
 // What a name is compared by before its bytes: mark, length and kind.
 pub fn key_of(kind: u8, content: &[u8]) -> u64
@@ -11,6 +11,14 @@ pub fn key_of(kind: u8, content: &[u8]) -> u64
     ensures { λ r. ⌜ (r ≡ keyOf kind (now (content .entry))) × (r < 281474976710656) ⌝ }
 {
     crate::mark::mark(content) * 65536 + (content.len() as u64 * 2 + (kind as u64 - 10))
+}
+
+// An entry with no mark, where no name is looked up: a part of the first slice.
+pub fn plain_entry(kind: u8, start: usize, len: usize) -> u64
+    requires { ⌜ (10 ≤ kind) × (kind ≤ 11) × (start ≤ 16384) × (len ≤ 32768) ⌝ }
+    ensures { λ r. ⌜ r ≡ plainEntry kind start len ⌝ }
+{
+    start as u64 * 562949953421312 + (len as u64 * 2 + (kind as u64 - 10))
 }
 
 // A part of the first or of the second of two slices.

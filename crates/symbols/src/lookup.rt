@@ -76,7 +76,8 @@ pub enum Noted {
     Full,
 }
 
-// Looks up a name that stands in one of two slices, and puts it in where it is new.
+// Looks up a name that stands in one of two slices, and puts it in where it is new. The key is the caller's to make:
+// without the marking of bytes this is short enough to be compiled into each caller, and strict reading is faster for it.
 pub fn note<'a>(
     first: &'a [u8],
     second: &'a [u8],
@@ -84,14 +85,14 @@ pub fn note<'a>(
     links: &mut [u16; Links::SIZE],
     count: usize,
     kind: u8,
+    key: u64,
     side: u64,
     start: usize,
     content: &[u8],
 ) -> Noted
-    requires { ⌜ Chained (now first) (now second) (now entries) (now links) count × Part (now first) (now second) kind side start (now content) ⌝ }
+    requires { ⌜ Chained (now first) (now second) (now entries) (now links) count × Part (now first) (now second) kind side start (now content) × (key ≡ keyOf kind (now content)) ⌝ }
     ensures { λ r. ⌜ NotedAs (now (first .entry)) (now (second .entry)) (now (entries .entry)) (now (entries .exit)) (now (links .entry)) (now (links .exit)) count (name kind (now (content .entry))) start r ⌝ }
 {
-    let key = crate::entry::key_of(kind, content);
     match find(first, second, entries, links, count, kind, key, content) {
         Lookup::At(i) => Noted::Known(i),
         Lookup::Nothing => {

@@ -1,5 +1,6 @@
-// The leaves: a header read, UTF-8, bytes compared, and headers and bytes written.
+// The leaves: a header read, UTF-8, bytes compared, rules that reading and writing share, and headers and bytes written.
 pub mod bytes;
 pub mod header;
 pub mod output;
+pub mod rules;
 pub mod utf8;

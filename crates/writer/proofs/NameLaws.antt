@@ -3,7 +3,7 @@ use mathlib.Core.Path.{_≡_, refl, ap, sym, _∙_}
 use mathlib.Core.Bool.{true, false}
 use mathlib.Core.List.{List, []}
 use mathlib.Core.Option.{Option, none, some}
-use Prim.Native.Nat.{ℕ, _+_, _-_, _*_, _^_, _≤_, _<_}
+use Prim.Native.Nat.{ℕ, _+_, _-_, _^_, _≤_, _<_}
 use native.Mathlib.Omega.{arith}
 use lib.ListN.{length, take, drop, set, getD, length-set}
 use lib.Seq.{getD-set-same, getD-set-other}
@@ -14,12 +14,12 @@ use Rattle.format.specs.Item.{Item, hasContent}
 use Rattle.format.specs.Names.{sameName, index, namesFrom}
 use Rattle.format.specs.Rows.{contentOf, itemAt}
 use Rattle.format.specs.Writing.{isBad}
-use Rattle.format.proofs.Names.{item-path, same-name-refl, index-at}
-use Rattle.format.proofs.Encoding.{at-lt}
-use Rattle.symbols.specs.Entry.{keyOf, sideOf, partIn, name, nameIn, namesIn, Sound}
+use Rattle.format.proofs.Names.{item-path, same-name-refl}
+use Rattle.symbols.specs.Entry.{partIn, name, nameIn, namesIn, Part}
 use Rattle.symbols.specs.Chains.{Chained}
-use Rattle.symbols.proofs.EntryLaws.{side-both, packed-name, packed-sound}
-use Rattle.symbols.proofs.ChainLaws.{index-some, length-names, same-via, count-le}
+use Rattle.symbols.specs.Noting.{Entered}
+use Rattle.symbols.proofs.EntryLaws.{side-both}
+use Rattle.symbols.proofs.ChainLaws.{index-some, same-via, count-le}
 use Rattle.writer.specs.declared.state.State.{State}
 use Rattle.writer.specs.Steps.{namedBy}
 use Rattle.writer.specs.Names.{Placed, Naming}
@@ -36,42 +36,29 @@ module _ (text : List ℕ) (r : Row) (lo : 10 ≤ r .kind) (fine : isBad text r 
   pub has-content : hasContent (r .kind) ≡ true
   has-content = content-text (r .kind) (omega arith)
 
-  pub name-is : itemAt text r ≡ name (r .kind) (contentOf text r)
+  name-is : itemAt text r ≡ name (r .kind) (contentOf text r)
   unfolding itemAt
   name-is = item-path refl (sym (content-length text r fine has-content)) refl
 
-  pub name-inside : r .start + length (contentOf text r) ≤ length text
+  name-inside : r .start + length (contentOf text r) ≤ length text
   name-inside = omega (arith, content-length text r fine has-content, inside text r fine has-content)
 
   name-part : contentOf text r ≡ take (length (contentOf text r)) (drop (r .start) text)
   name-part = sym (content-part text r fine has-content) ∙ ap (λ n. take n (drop (r .start) text)) (sym (content-length text r fine has-content))
 
-  -- looked up by its bytes
-  pub looked-up : {part : List ℕ} (ns : List Item) {o : Option ℕ} → part ≡ contentOf text r → index (name (r .kind) part) ns ≡ o → index (itemAt text r) ns ≡ o
-  looked-up {part} ns e f = ap (λ (x : Item). index x ns) (name-is ∙ ap (name (r .kind)) (sym e)) ∙ f
-
-  -- its entry
-  module _ (key : ℕ) (ek : key ≡ keyOf (r .kind) (contentOf text r)) (short : length text ≤ 16384) where
-    entry-is : r .start * 562949953421312 + key ≡ (r .start * 2 + 0) * 281474976710656 + key
-    entry-is = omega arith
-
-    here : sideOf 0 text text ≡ text
-    here = side-both 0 text
-
-    pub entry-name : nameIn text text (r .start * 562949953421312 + key) ≡ itemAt text r
-    entry-name =
-        ap (nameIn text text) entry-is
-        ∙ packed-name text text (r .kind) key 0 (r .start) (contentOf text r) ek lo (kind-most text r fine) (omega (arith, name-inside)) (omega arith)
-        (rw here name-inside) (rw here name-part) ∙ sym name-is
-
-    pub entry-index : (ns : List Item) {o : Option ℕ} → index (itemAt text r) ns ≡ o → index (nameIn text text (r .start * 562949953421312 + key)) ns ≡ o
-    entry-index ns e = ap (λ (x : Item). index x ns) entry-name ∙ e
-
-    pub entry-sound : Sound text text (r .start * 562949953421312 + key)
-    entry-sound =
-        rw entry-is
-        (packed-sound text text (r .kind) key 0 (r .start) (contentOf text r) ek lo (kind-most text r fine) (omega (arith, name-inside)) (omega arith)
-        (rw here name-inside) (rw here name-part))
+  -- where its bytes stand
+  pub name-stands : {part : List ℕ} → length text ≤ 16384 → part ≡ contentOf text r → Part text text (r .kind) 0 (r .start) part
+  name-stands short e =
+      rw e
+      (record {
+        low = lo;
+        high = kind-most text r fine;
+        sides = omega arith;
+        short = omega (arith, name-inside);
+        near = omega (arith, name-inside);
+        inside = rw (side-both 0 text) name-inside;
+        is = rw (side-both 0 text) name-part;
+      })
 
   -- a guess that is right
   module _ {es links : List ℕ} {count g : ℕ} (ch : Chained text text es links count) (p : Placed es count g (r .kind) (r .start) (r .number)) where
@@ -94,6 +81,11 @@ module _ {text es links st plan : List ℕ} {xs : List Row} {s : State} (a : Aft
   pub among : {o : Option ℕ} → index (itemAt text r) (namesIn text text (take (s .names) es)) ≡ o → index (itemAt text r) (namesFrom [] (a .progress .items)) ≡ o
   among e = ap (index (itemAt text r)) (sym (a .measured .names)) ∙ e
 
+  -- and it is by the bytes
+  pub looked-up : {part : List ℕ} {o : Option ℕ} → part ≡ contentOf text r → index (name (r .kind) part) (namesIn text text (take (s .names) es)) ≡ o
+      → index (itemAt text r) (namesIn text text (take (s .names) es)) ≡ o
+  looked-up e f = ap (λ (x : Item). index x (namesIn text text (take (s .names) es))) (name-is text r (w .name) (w .fine) ∙ ap (name (r .kind)) (sym e)) ∙ f
+
   pub known-next : {plan′ : List ℕ} (i : ℕ) {t : State} → i < 2 ^ 64 → index (itemAt text r) (namesIn text text (take (s .names) es)) ≡ some i
       → t ≡ namedBy st s (r .kind) (s .names) (length (header 7 i)) → plan′ ≡ set plan (s .row) i → Next text es links st plan′ xs r s t
   known-next i l e et ep =
@@ -102,20 +94,25 @@ module _ {text es links st plan : List ℕ} {xs : List Row} {s : State} (a : Aft
       (known-none a r (w .name) (w .fine) (w .alone) i (among e))
       (rw (← items-count a r) (measure-known (a .measured) (itemAt text r) (omega (arith, items-count a r, ready .row)) i (length (header 7 i)) (is-name a r (w .name) (w .fine)) (among e) refl)))
 
-  pub fresh-next : {es′ links′ plan′ : List ℕ} (key g v m : ℕ) {t : State} → key ≡ keyOf (r .kind) (contentOf text r) → utf8 (contentOf text r) ≡ true → s .names < 256
-      → index (itemAt text r) (namesIn text text (take (s .names) es)) ≡ none → m ≡ length (header (r .kind - 5) (r .number))
-      → t ≡ namedBy st s (r .kind) (s .names + 1) (m + r .number)
-      → es′ ≡ set es (s .names) (r .start * 562949953421312 + key) → Chained text text es′ links′ (s .names + 1)
+  pub fresh-next : {es′ links′ plan′ part : List ℕ} (g v : ℕ) {t : State} → part ≡ contentOf text r → utf8 (contentOf text r) ≡ true
+      → Entered text text es es′ links′ (s .names) (name (r .kind) part) (r .start)
+      → t ≡ namedBy st s (r .kind) (s .names + 1) (length (header (r .kind - 5) (r .number)) + r .number)
       → plan′ ≡ set (set plan (1024 + g) v) (s .row) 256 → Next text es′ links′ st plan′ xs r s t
   unfolding itemAt
-  fresh-next key g v m ek u few e em et ee ch ep =
+  fresh-next g v e u n et ep =
       rw ep
-      (named-next a r (s .names + 1) (m + r .number) et (ready .row) (content-small text r hc (w .fine) (ready .short) m em) (λ q. omega (arith, w .name))
-      (fresh-none a r (w .name) (w .fine) (w .alone) (among e) u few)
-      (measure-fresh (a .measured) (itemAt text r) (omega (arith, count, ready .row)) _ _ (set (set plan (1024 + g) v) (s .row) 256) (r .start * 562949953421312 + key) (m + r .number)
-      (is-name a r (w .name) (w .fine)) (among e) u (content-full text r hc (w .fine) m em) ch ee (entry-name text r (w .name) (w .fine) key ek (ready .short))
+      (named-next a r (s .names + 1) (m + r .number) et (ready .row) (content-small text r hc (w .fine) (ready .short) m refl) (λ q. omega (arith, w .name))
+      (fresh-none a r (w .name) (w .fine) (w .alone) new-name u (n .room))
+      (measure-fresh (a .measured) (itemAt text r) (omega (arith, count, ready .row)) _ _ (set (set plan (1024 + g) v) (s .row) 256) (n .entry) (m + r .number)
+      (is-name a r (w .name) (w .fine)) new-name u (content-full text r hc (w .fine) m refl) (n .chained) (n .stored) (n .named ∙ ap (name (r .kind)) e ∙ sym (name-is text r (w .name) (w .fine)))
       (length-set (set plan (1024 + g) v) (s .row) 256 ∙ length-set plan (1024 + g) v ∙ a .measured .plan-size) old new))
     where
+      m : ℕ
+      m = length (header (r .kind - 5) (r .number))
+
+      new-name : index (itemAt text r) (namesFrom [] (a .progress .items)) ≡ none
+      new-name = among (looked-up e (n .new))
+
       hc : hasContent (r .kind) ≡ true
       hc = has-content text r (w .name) (w .fine)
 

@@ -1,24 +1,19 @@
--- One row: rule 9 by its kind, its content, and its length in full. Assumes nothing.
+-- One row: rule 9 by its kind, and its content. Assumes nothing.
 use mathlib.Core.Path.{_≡_, refl, ap, sym, _∙_}
 use mathlib.Core.Logic.{_≢_}
 use mathlib.Core.Bool.{Bool, true, false}
-use mathlib.Core.List.{List, _∷_}
+use mathlib.Core.List.{List}
 use Prim.Native.Nat.{ℕ, _+_, _-_, _^_, _≤_, _<_}
 use native.Mathlib.Omega.{arith}
 use lib.Dec.{eqb, ltb, leb}
-use lib.ListN.{length, take, drop, length-drop, length-append}
+use lib.ListN.{length, take, drop, length-drop}
 use lib.Seq.{length-take-le}
 use Rattle.format.specs.declared.row.Row.{Row}
 use Rattle.format.specs.Choice.{_&&_, _||_}
-use Rattle.format.specs.Header.{header, digits, following}
-use Rattle.format.specs.Item.{Item, hasContent}
-use Rattle.format.specs.Canonical.{full}
+use Rattle.format.specs.Item.{hasContent}
 use Rattle.format.specs.Rows.{contentOf}
 use Rattle.format.specs.Writing.{isBad}
 use Rattle.format.proofs.Tests.{cases, clash, order, eqb-yes, eqb-no, eqb-true, leb-yes, leb-true, ltb-yes, ltb-no, ltb-false, or-false, and-no-right, pick-yes}
-use Rattle.format.proofs.Numbers.{length-digits, width-holds}
-use Rattle.format.proofs.Headers.{length-header}
-use Rattle.format.proofs.Encoding.{full-other}
 use Rattle.writer.specs.Rules.{badNumber}
 
 -- The row that stands past the end of a list of rows.

@@ -5,3 +5,4 @@ pub mod Putting
 pub mod Judging
 pub mod Names
 pub mod Answers
+pub mod Promises

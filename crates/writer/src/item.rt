@@ -7,7 +7,7 @@ ghost use lib.Dec.{ltb};
 ghost use lib.ListN.{length};
 ghost use Rattle.format.specs.Item.{hasContent};
 ghost use Rattle.format.specs.Canonical.{full};
-ghost use Rattle.format.specs.Rows.{contentOf, itemAt};
+ghost use Rattle.format.specs.Rows.{contentOf};
 ghost use Rattle.format.specs.Writing.{isBad};
 ghost use Rattle.writer.specs.Rules.{badNumber};
 use format::Row;

@@ -1,18 +1,13 @@
 // A row that is a symbol or a key: found in the table of names, or put into it.
 ghost use mathlib.Core.Path.{_≡_};
-ghost use mathlib.Core.Bool.{true, false};
+ghost use mathlib.Core.Bool.{true};
 ghost use mathlib.Core.List.{List};
-ghost use mathlib.Core.Option.{none};
-ghost use Prim.Native.Nat.{ℕ, _+_, _≤_, _<_};
-ghost use lib.Dec.{eqb, ltb};
-ghost use lib.ListN.{length, take, set};
+ghost use Prim.Native.Nat.{ℕ, _+_, _-_, _%_, _≤_, _<_};
+ghost use lib.Dec.{ltb};
+ghost use lib.ListN.{length, set};
 ghost use Rattle.format.specs.declared.row.Row.{Row};
-ghost use Rattle.format.specs.Choice.{_&&_, _||_};
+ghost use Rattle.format.specs.Choice.{_||_};
 ghost use Rattle.format.specs.Header.{header};
-ghost use Rattle.format.specs.Names.{index};
-ghost use Rattle.format.specs.Rows.{contentOf, itemAt};
-ghost use Rattle.format.specs.Utf8.{utf8};
-ghost use Rattle.symbols.specs.Entry.{keyOf, namesIn};
 ghost use Rattle.symbols.specs.Chains.{Chained};
 ghost use Rattle.writer.specs.Judging.{After, Next, Ready};
 ghost use Rattle.writer.specs.Names.{Placed, Naming};
@@ -29,10 +24,10 @@ use format::Row;
 use format::SymbolTable;
 use symbols::entry::key_of;
 use symbols::lookup::Links;
-use symbols::lookup::Lookup;
-use symbols::lookup::enter;
-use symbols::lookup::find;
+use symbols::lookup::Noted;
+use symbols::lookup::note;
 use wire::header::header_len;
+use wire::rules::key_after_key;
 use wire::utf8::is_utf8;
 
 // For each row that is a name its reference, and then guesses: the entry of a name that begins at a place in the text, if it is still there.
@@ -55,16 +50,6 @@ fn is_bad(len: usize, row: Row) -> bool
         return true;
     }
     outside(len, row.start, row.number)
-}
-
-// A key after a key.
-fn again(keyed: usize, kind: u8) -> bool
-    ensures { λ r. ⌜ r ≡ (eqb keyed 1 && eqb kind 11) ⌝ }
-{
-    if keyed != 1 {
-        return false;
-    }
-    kind == Row::MAX_KIND
 }
 
 // Does an entry stand for this part of the text?
@@ -107,37 +92,21 @@ fn known(
     named(stack, s, kind, s.names, header_len(7, i as u64))
 }
 
-// A name that has none yet.
+// A name that is entered now: the guess for its place in the text, and that it stands in full.
 fn fresh(
-    text: &[u8],
-    entries: &mut [u64; SymbolTable::MAX_ENTRIES],
-    links: &mut [u16; Links::SIZE],
     stack: &[u64; Bundle::MAX_DEPTH],
     plan: &mut [u16; Plan::SIZE],
     s: State,
     row: Row,
-    key: u64,
 ) -> State
-    requires { ⌜ Ready (now text) (now stack) s × Naming (now text) s row × Chained (now text) (now text) (now entries) (now links) (s .names) × (length (now plan) ≡ 1533)
-        × (key ≡ keyOf (row .kind) (contentOf (now text) row)) × (index (itemAt (now text) row) (namesIn (now text) (now text) (take (s .names) (now entries))) ≡ none) ⌝ }
-    ensures { λ r. ⌜ ((xs : List Row) → After (now (text .entry)) (now (entries .entry)) (now (links .entry)) (now (stack .entry)) (now (plan .entry)) xs s → utf8 (contentOf (now (text .entry)) row) ≡ true
-        → Next (now (text .entry)) (now (entries .exit)) (now (links .exit)) (now (stack .entry)) (now (plan .exit)) xs row s r) ⌝ }
+    requires { ⌜ ((text : List ℕ) × Ready text (now stack) s) × (length (now plan) ≡ 1533) × (s .names < 256) × (10 ≤ row .kind) × (row .kind ≤ 11) × (row .number ≤ 16384) ⌝ }
+    ensures state { λ r. ⌜ r ≡ namedBy (now (stack .entry)) s (row .kind) (s .names + 1) (length (header (row .kind - 5) (row .number)) + row .number) ⌝ }
+    ensures planned { λ _. ⌜ now (plan .exit) ≡ set (set (now (plan .entry)) (1024 + row .start % 509) (s .names)) (s .row) 256 ⌝ }
 {
     let names = s.names;
-    if SymbolTable::MAX_ENTRIES <= names {
-        return refuse(s, Error::TooManyEntries);
-    }
     let at = s.row;
     let start = row.start;
     let number = row.number;
-    enter(
-        text,
-        text,
-        entries,
-        links,
-        names,
-        start as u64 * 562949953421312 + key,
-    );
     plan[Plan::GUESSES + start % Plan::MODULUS] = names as u16;
     plan[at] = Reference::FULL;
     let n = header_len(row.kind - 5, number) + number as usize;
@@ -164,9 +133,12 @@ fn looked_up(
     }
     let kind = row.kind;
     let key = key_of(kind, part);
-    match find(text, text, entries, links, s.names, kind, key, part) {
-        Lookup::At(i) => known(stack, plan, s, kind, i as u16),
-        Lookup::Nothing => fresh(text, entries, links, stack, plan, s, row, key),
+    let names = s.names;
+    let start = row.start;
+    match note(text, text, entries, links, names, kind, key, 0, start, part) {
+        Noted::Known(i) => known(stack, plan, s, kind, i as u16),
+        Noted::Entered => fresh(stack, plan, s, row),
+        Noted::Full => refuse(s, Error::TooManyEntries),
     }
 }
 
@@ -188,7 +160,7 @@ pub fn name_row(
         return refuse(s, Error::InvalidRow);
     }
     let kind = row.kind;
-    if again(s.keyed, kind) {
+    if key_after_key(s.keyed, kind) {
         return refuse(s, Error::UnexpectedKey);
     }
     let start = row.start;

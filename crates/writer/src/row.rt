@@ -1,14 +1,11 @@
 // One row: judged by the rules in their order, and measured.
 ghost use mathlib.Core.Path.{_≡_};
-ghost use mathlib.Core.Bool.{true, false, not};
+ghost use mathlib.Core.Bool.{true, false};
 ghost use mathlib.Core.List.{List};
-ghost use Prim.Native.Nat.{ℕ, _≤_, _<_};
-ghost use lib.Dec.{eqb};
+ghost use Prim.Native.Nat.{ℕ, _<_};
 ghost use lib.ListN.{length};
 ghost use Rattle.format.specs.declared.row.Row.{Row};
-ghost use Rattle.format.specs.Choice.{_&&_};
 ghost use Rattle.format.specs.Item.{hasContent};
-ghost use Rattle.format.specs.Utf8.{utf8};
 ghost use Rattle.symbols.specs.Chains.{Chained};
 ghost use Rattle.writer.specs.Judging.{After, Next, Ready};
 use crate::item::bad_number;
@@ -28,17 +25,7 @@ use format::Row;
 use format::SymbolTable;
 use symbols::lookup::Links;
 use wire::header::header_len;
-use wire::utf8::is_utf8;
-
-// A string that is not UTF-8; bytes pass.
-fn bad_text(kind: u8, part: &[u8]) -> bool
-    ensures { λ r. ⌜ r ≡ (eqb kind 9 && not (utf8 (now (part .entry)))) ⌝ }
-{
-    if kind == 9 {
-        return !is_utf8(part);
-    }
-    false
-}
+use wire::rules::bad_text;
 
 // Bytes or a string.
 fn content_row(text: &[u8], stack: &[u64; Bundle::MAX_DEPTH], s: State, row: Row) -> State
@@ -50,7 +37,7 @@ fn content_row(text: &[u8], stack: &[u64; Bundle::MAX_DEPTH], s: State, row: Row
         return refuse(s, Error::InvalidRow);
     }
     let kind = row.kind;
-    if bad_text(kind, content(text, row)) {
+    if bad_text(kind == 9, content(text, row)) {
         return refuse(s, Error::InvalidUtf8);
     }
     let n = header_len(kind - 5, number) + number as usize;

@@ -7,11 +7,12 @@ ghost use lib.Dec.{eqb, ltb};
 ghost use lib.ListN.{length, take};
 ghost use Rattle.format.specs.declared.row.Row.{Row};
 ghost use Rattle.format.specs.Choice.{_||_};
-ghost use Rattle.format.specs.Answer.{counted, stored};
+ghost use Rattle.format.specs.Answer.{counted};
 ghost use Rattle.format.specs.Error.{codeOf};
 ghost use Rattle.format.specs.Writing.{writing};
 ghost use Rattle.writer.specs.Judging.{Verdict, isRowError};
 ghost use Rattle.writer.specs.Answers.{answerOf, limitOf, rowsIn};
+ghost use Rattle.writer.specs.Promises.{Wrote};
 use crate::judging::judge;
 use crate::name::Plan;
 use crate::putting::put;
@@ -27,16 +28,16 @@ pub enum Written {
 }
 
 // How many rows are to be judged: none where there are too many, or the text is too long.
-fn limit(rows: usize, text: usize) -> usize
-    ensures { λ r. ⌜ r ≡ limitOf rows text ⌝ }
+fn limit(count: usize, len: usize) -> usize
+    ensures { λ r. ⌜ r ≡ limitOf count len ⌝ }
 {
-    if Row::MAX_COUNT < rows {
+    if Row::MAX_COUNT < count {
         return 0;
     }
-    if Bundle::MAX_BYTES < text {
+    if Bundle::MAX_BYTES < len {
         return 0;
     }
-    rows
+    count
 }
 
 // The error of a row, by its number.
@@ -99,8 +100,7 @@ fn count_of(answer: Written, n: usize) -> usize
 
 // Writes the canonical encoding of rows over a text; on an error no byte is changed.
 pub fn write(rows: &[Row], text: &[u8], out: &mut [u8]) -> Written
-    ensures answer { λ r. ⌜ answerOf r ≡ counted (writing (now (rows .entry)) (now (text .entry)) (length (now (out .entry)))) ⌝ }
-    ensures buffer { λ _. ⌜ now (out .exit) ≡ stored (now (out .entry)) (writing (now (rows .entry)) (now (text .entry)) (length (now (out .entry)))) ⌝ }
+    ensures { λ r. ⌜ Wrote (now (rows .entry)) (now (text .entry)) (now (out .entry)) r (now (out .exit)) ⌝ }
 {
     let mut plan = [0u16; Plan::SIZE];
     let n = limit(rows.len(), text.len());

@@ -44,6 +44,7 @@ use Rattle.format.proofs.row.Row as T
 use Rattle.format.proofs.WalkCall.{says-both, asks-one, calls-plain}
 use Rattle.writer.specs.declared.writing.Written.{Written}
 use Rattle.writer.specs.Answers.{answerOf}
+use Rattle.writer.specs.Promises.{Wrote}
 use Rattle.writer.proofs.writing.Written as N
 use Rattle.writer.proofs.writing.Written.Laws as N′
 use Rattle.writer.proofs.write as write
@@ -129,9 +130,6 @@ module _ {M : Type 1} (𝓤 : URA M) (H : Heap 𝓤) (A : Atoms 𝓤) (W : Given
       move ! (2 ∷ 0 ∷ []) $ fjoin ! $ move ! (1 ∷ 0 ∷ []) $ join ! $ frame ! $ nothing ! $ keep ! (0 ∷ []) $ done !
 
   module _ (C : Calls 𝓤 H) (Λ : Loops 𝓤 H) (fm : FmC 𝓤 H (W .laws) C) (known-write : Triple 𝓤 (C #write) (Write 𝓤 H A mem run)) (known-written-of : Triple 𝓤 (C #written-of) (WrittenOf 𝓤 H A mem run)) where
-    abbrev result : List ℕ → Type 0
-    result zs = zs ≡ stored old (writing (rx .now) (tx .now) (length old))
-
     walk : ent 𝓤 (onEntry 𝓤 H A own.signature (κ, (κ′, (κ″, tt))) (q, (q′, (q″, tt))) x at) (WpFn 𝓤 H C Λ code.function (rv ∷ tv ∷ ov ∷ []) Post)
     walk =
         qed W (Tokens ∷ ‵ (owns (ShrSlice (named 0) κ T.the-row ∷ ShrSlice (named 1) κ′ u8 ∷ MutSlice (named 2) κ″ u8 ∷ []) x at) ∷ []) ∵ enter ! C Λ code.function (rv ∷ tv ∷ ov ∷ []) _ $
@@ -149,8 +147,8 @@ module _ {M : Type 1} (𝓤 : URA M) (H : Heap 𝓤) (A : Atoms 𝓤) (W : Given
         calls-at ! fm (Write 𝓤 H A mem run) known-write to (and-then ! (load ! (from ! (stop !)) (look ! 14 refl)) (and-then ! (load ! (from ! (stop !)) (look ! 12 refl)) (and-then ! (load ! (from ! (stop !)) (look ! 4 refl)) (no-more !)))) (λ u.
         use1 W (later (some (λ (r : Written). (Tokens ⊛ ‵ (N.the-row .own r (u ∷ []))) ⊛ raw (ensured 𝓤 H A write.ended (write.clauses 𝓤 H A mem run) (κ, (κ′, (κ″, tt))) (rx, (tx, (ox, tt))) tt r)))) (id⊢ 𝓤 _) $ await ! tt $ pick ! (λ r.
         split ! $ move ! (1 ∷ []) $ use1 W (some (λ (ws : Unit {0} × (Unit {0} × (List ℕ × Unit {0}))). ‵ (lasts write.ended (κ, (κ′, (κ″, tt))) (rx, (tx, (ox, tt))) ws)
-        ⊛ (raw (fact 𝓤 (answerOf r ≡ counted (writing (rx .now) (tx .now) (length old)))) ⊛ raw (fact 𝓤 (result (ws .1 .1 .0)))))) (id⊢ 𝓤 _) $ pick ! (λ ws.
-        split ! $ move ! (1 ∷ []) $ split ! $ heard ! (answerOf r ≡ counted (writing (rx .now) (tx .now) (length old))) (λ e. heard ! (result (ws .1 .1 .0)) (λ e′.
+        ⊛ raw (fact 𝓤 (Wrote (rx .now) (tx .now) old r (ws .1 .1 .0))))) (id⊢ 𝓤 _) $ pick ! (λ ws.
+        split ! $ move ! (1 ∷ []) $ heard ! (Wrote (rx .now) (tx .now) old r (ws .1 .1 .0)) (λ e.
         fsplit ! $ drop ! $ fsplit ! $ drop ! $ fsplit ! $ fsplit ! $ move ! (1 ∷ []) $ feqL ! (λ len.
         -- [the last bytes; true; the tokens and the result; true; what text owns; what rows owns; _6; …]
         move ! (2 ∷ []) $ split ! $ move ! (1 ∷ []) $ facts ! N.the-row (Is N.the-row) (shows 𝓤 H A N.the-row) r (u ∷ []) (λ is.
@@ -161,7 +159,7 @@ module _ {M : Type 1} (𝓤 : URA M) (H : Heap 𝓤) (A : Atoms 𝓤) (W : Given
         land ! (from ! (stop !)) (init ! 18 refl (LL.lawful R.the-type R′.the-laws 𝓤 H A W .typed a (w ∷ []) isa .0)) $
         returns ! (look ! 18 refl) $ forget ! 6 refl $ forget ! 8 refl $ forget ! 10 refl $ forget ! 12 refl $ forget ! 14 refl $ forget ! 16 refl $ forget ! 18 refl $
         move ! (18 ∷ 19 ∷ []) $ free1 ! $ move ! (16 ∷ 17 ∷ []) $ free1 ! $ move ! (14 ∷ 15 ∷ []) $ free1 ! $ move ! (12 ∷ 13 ∷ []) $ free1 ! $ move ! (10 ∷ 11 ∷ []) $ free1 ! $ move ! (8 ∷ 9 ∷ []) $ free1 ! $ move ! (6 ∷ 7 ∷ []) $ free1 ! $ free0 ! $
-        keep ! (0 ∷ 1 ∷ 5 ∷ 4 ∷ []) $ by ! (exits a w (ws .1 .1 .0) isa (ea ∙ ap countAnswer e) e′ len))))))))))))))))
+        keep ! (0 ∷ 1 ∷ 5 ∷ 4 ∷ []) $ by ! (exits a w (ws .1 .1 .0) isa (ea ∙ ap countAnswer (e .answer)) (e .buffer) len)))))))))))))))
 
 module _ {M : Type 1} (𝓤 : URA M) (H : Heap 𝓤) (A : Atoms 𝓤) (W : Given 𝓤 H A) (mem : Memory → SProp 𝓤) (run : Routine → Fun 𝓤) (𝓣 : Tables 𝓤 H) (known-write : Triple 𝓤 (𝓣 .C #write) (Write 𝓤 H A mem run))
     (known-written-of : Triple 𝓤 (𝓣 .C #written-of) (WrittenOf 𝓤 H A mem run)) where

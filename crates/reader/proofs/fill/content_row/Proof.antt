@@ -29,38 +29,26 @@ new-requires-2 c κs = search needs
 returns-2 : tie.Need-returns-2
 returns-2 c = content-full _ _ _ _ _ refl (c .new2 .ensures) (c .before .if2 .taken)
 
+plain-entry-requires : tie.Need-plain-entry-requires
+plain-entry-requires c κs = search needs
+
 mul-entries : tie.Need-mul-entries
 mul-entries c = search needs
-
-mul-entries-2 : tie.Need-mul-entries-2
-mul-entries-2 c = search needs
-
-sub-entries : tie.Need-sub-entries
-sub-entries c = search needs
-
-add-entries : tie.Need-add-entries
-add-entries c = search needs
-
-add-entries-2 : tie.Need-add-entries-2
-add-entries-2 c = search needs
-
-mul-entries-3 : tie.Need-mul-entries-3
-mul-entries-3 c = search needs
 
 element-write-entries : tie.Need-element-write-entries
 element-write-entries c = search needs
 
-add-t20 : tie.Need-add-t20
-add-t20 c = search needs
+add-t15 : tie.Need-add-t15
+add-t15 c = search needs
 
-add-t23 : tie.Need-add-t23
-add-t23 c = search needs
+add-t18 : tie.Need-add-t18
+add-t18 c = search needs
 
 new-requires-3 : tie.Need-new-requires-3
 new-requires-3 c κs = search needs
 
 returns-3 : tie.Need-returns-3
-returns-3 c = content-entered _ _ _ _ _ refl (c .new3 .ensures) (c .before .before .if1 .left) (c .before .if2 .left)
+returns-3 c = content-entered _ _ _ _ _ refl (c .new3 .ensures) (c .before .plain-entry .ensures) (c .before .before .before .if1 .left) (c .before .before .if2 .left)
 
 pub content-row-spec : {M : Type 1} → statement M
 content-row-spec =
@@ -74,14 +62,10 @@ content-row-spec =
     add-t13
     new-requires-2
     returns-2
+    plain-entry-requires
     mul-entries
-    mul-entries-2
-    sub-entries
-    add-entries
-    add-entries-2
-    mul-entries-3
     element-write-entries
-    add-t20
-    add-t23
+    add-t15
+    add-t18
     new-requires-3
     returns-3)

@@ -33,7 +33,7 @@ use denote.Triple.Entry.{Vals, onEntry}
 use denote.Triple.Spec.{Meets, tripleOf}
 use denote.Triple.Clauses.{lasts}
 use denote.Triple.Table.{entered, cited}
-use denote.Triple.Walked.{Stays, stay-none-slice, gave-slice, walkOf, goes-none-slice, goes-gave-slice, Walks, ends-at, walked, walk-meets}
+use denote.Triple.Walked.{says, Stays, stay-none-slice, gave-slice, walkOf, goes-none-slice, goes-gave-slice, Walks, ends-at, walked, walk-meets}
 use denote.Exit.{yes}
 use Rattle.format.specs.declared.row.Row.{Row}
 use Rattle.format.specs.declared.error.Mode.{Mode}
@@ -50,7 +50,7 @@ use Rattle.format.proofs.error.Mode.default.Symbol.{name as #default}
 use Rattle.format.proofs.error.Mode.default.Met as default-thm
 use Rattle.reader.specs.declared.checking.Checked.{Checked}
 use Rattle.reader.specs.Answers.{answerOf}
-use Rattle.format.proofs.WalkCall.{says-both, calls-plain}
+use Rattle.format.proofs.WalkCall.{calls-plain}
 use Rattle.reader.proofs.WalkSteps.{ReadIn, Bytes, Tokens, reads-in}
 use Rattle.reader.proofs.checking.Checked as N
 use Rattle.reader.proofs.checking.Checked.Laws as N′
@@ -97,7 +97,7 @@ module _ {M : Type 1} (𝓤 : URA M) (H : Heap 𝓤) (A : Atoms 𝓤) (W : Given
       → ent 𝓤 (⋆ 𝓤 H A (Tokens 𝓤 κ κ′ q q′ ∷ ‵ (finally T.the-row γ zs) ∷ ‵ (Bytes κ bx) ∷ [])) (Post u)
   exits r u zs is e e′ len =
       qed W (Tokens 𝓤 κ κ′ q q′ ∷ ‵ (finally T.the-row γ zs) ∷ ‵ (Bytes κ bx) ∷ []) ∵
-      suffices ! _ (ends-at 𝓤 H A read.ended stayed (read.clauses 𝓤 H A mem run) W (((κ, (κ′, tt)), (q, (q′, tt)), tt, x, at), tt) u r (tt, (zs, tt)) (tt, (len, tt))) $ says-both ! e e′ $ frame ! $
+      suffices ! _ (ends-at 𝓤 H A read.ended stayed (read.clauses 𝓤 H A mem run) W (((κ, (κ′, tt)), (q, (q′, tt)), tt, x, at), tt) u r (tt, (zs, tt)) (tt, (len, tt))) $ says ! (record { answer = e; filled = e′ }) $ frame ! $
       -- [the last list; what bytes owns]
       nothing ! $ move ! (1 ∷ 0 ∷ []) $ fjoin ! $ move ! (1 ∷ 0 ∷ []) $ fjoin ! $ frame ! $ owned ! N.the-row (Is N.the-row) ((EL.makes N.the-type N′.the-plain) 𝓤 H A) r _ is $ done !
 

@@ -51,7 +51,7 @@ use Rattle.reader.specs.declared.checking.Checked.{Checked}
 use Rattle.reader.specs.Answers.{answerOf, rowsIn}
 use Rattle.reader.specs.Filling.{begin, rowsFrom}
 use Rattle.reader.proofs.SecondPass.{second-fits, second-pass}
-use Rattle.format.proofs.WalkCall.{says-both, asks-one, calls-plain}
+use Rattle.format.proofs.WalkCall.{asks-one, calls-plain}
 use Rattle.reader.proofs.WalkSteps.{Bytes, Rows, Tokens}
 use Rattle.reader.proofs.checking.Checked as N
 use Rattle.reader.proofs.checking.Checked.Laws as N′
@@ -128,7 +128,7 @@ module _ {M : Type 1} (𝓤 : URA M) (H : Heap 𝓤) (A : Atoms 𝓤) (W : Given
       → ent 𝓤 (⋆ 𝓤 H A (Tokens 𝓤 κ κ′ q q′ ∷ ‵ (finally T.the-row γ zs) ∷ ‵ (Bytes κ bx) ∷ [])) (Post u)
   exits r u is e zs e′ len =
       qed W (Tokens 𝓤 κ κ′ q q′ ∷ ‵ (finally T.the-row γ zs) ∷ ‵ (Bytes κ bx) ∷ []) ∵
-      suffices ! _ (ends-at 𝓤 H A read-in.ended stayed (read-in.clauses 𝓤 H A mem run) W (((κ, (κ′, tt)), (q, (q′, tt)), tt, x, at), tt) u r (tt, (tt, (zs, tt))) (tt, (tt, (len, tt)))) $ says-both ! e e′ $ frame ! $
+      suffices ! _ (ends-at 𝓤 H A read-in.ended stayed (read-in.clauses 𝓤 H A mem run) W (((κ, (κ′, tt)), (q, (q′, tt)), tt, x, at), tt) u r (tt, (tt, (zs, tt))) (tt, (tt, (len, tt)))) $ says ! (record { answer = e; filled = e′ }) $ frame ! $
       -- [the last list; what bytes owns]
       nothing ! $ move ! (1 ∷ 0 ∷ []) $ fjoin ! $ owned ! D.the-row (Is D.the-row) ((EL.makes D.the-type D′.the-plain) 𝓤 H A) m _ gm $ fjoin ! $ move ! (1 ∷ 0 ∷ []) $ fjoin ! $ frame ! $
       owned ! N.the-row (Is N.the-row) ((EL.makes N.the-type N′.the-plain) 𝓤 H A) r _ is $ done !

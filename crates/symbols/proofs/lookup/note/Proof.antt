@@ -1,69 +1,65 @@
-use mathlib.Core.Path.{refl, ap, sym, _∙_}
+-- `note` finds a name or enters it. Assumes nothing.
+use mathlib.Core.Path.{refl}
 use native.Mathlib.Omega.{arith}
-use Rattle.symbols.proofs.EntryLaws.{packed-marked, packed-name, packed-sound}
+use Rattle.symbols.proofs.EntryLaws.{key-lt, packed-marked, packed-name, packed-sound}
 use Rattle.symbols.proofs.ChainLaws.{found-some, found-nothing, index-small}
 use borrow.Author.Needs.{needs}
 use Rattle.symbols.proofs.lookup.note.Statement.{statement}
 use Rattle.symbols.proofs.lookup.note.Tie as tie
-use Rattle.symbols.proofs.lookup.note.Reads as reads
-use Rattle.symbols.proofs.lookup.note.Lts as lts
-use Rattle.symbols.proofs.entry.key_of.Reads as key-of-reads
-use Rattle.symbols.proofs.lookup.enter.Reads as enter-reads
-use Rattle.symbols.proofs.lookup.find.Reads as find-reads
 
--- src/lookup.rt:94:9
-key-of-requires : tie.Need-key-of-requires
-key-of-requires c κs = search needs
-
--- src/lookup.rt:95:11
 find-requires : tie.Need-find-requires
 find-requires c κs = search needs
 
--- src/lookup.rt:96:20
 enum-known-i : tie.Need-enum-known-i
 enum-known-i c = search needs
 
--- src/lookup.rt:98:16
 enum-told : tie.Need-enum-told
 enum-told c = search needs
 
--- src/lookup.rt:99:17
 returns : tie.Need-returns
 returns c = (found-nothing _ (rw (c .before .enum-told .given .1) at (c .before .before .before .find .ensures)), c .if1 .taken)
 
--- src/lookup.rt:107:18
 mul-enter : tie.Need-mul-enter
 mul-enter c = search needs
 
--- src/lookup.rt:107:18
 add-enter : tie.Need-add-enter
 add-enter c = search needs
 
--- src/lookup.rt:107:17
 mul-enter-2 : tie.Need-mul-enter-2
 mul-enter-2 c = search needs
 
--- src/lookup.rt:107:17
 add-enter-2 : tie.Need-add-enter-2
-add-enter-2 c = search needs
+add-enter-2 c = let p = c .before .before .before .before .before .before .before .before .before .before .before .pre .1 in omega (arith, p .near, p .sides, c .before .before .before .before .before .before .before .before .before .before .before .pre .2, key-lt (c .before .before .before .before .before .before .before .before .before .before .before .args .kind) (c .before .before .before .before .before .before .before .before .before .before .before .args .content .now) (p .high) (p .short))
 
--- src/lookup.rt:101:13
 enter-requires : tie.Need-enter-requires
-enter-requires c κs = let p = c .before .before .before .before .before .before .before .before .before .before .before .before .pre .1 in let k = c .before .before .before .before .before .before .before .before .key-of .ensures .0 in (c .before .before .before .before .before .before .before .before .before .before .before .before .pre .0, c .before .before .if1 .left, packed-sound _ _ _ _ _ _ _ k (p .low) (p .high) (p .short) (p .sides) (p .inside) (p .is), rw (packed-name _ _ _ _ _ _ _ k (p .low) (p .high) (p .short) (p .sides) (p .inside) (p .is)) (found-nothing _ (rw (c .before .before .before .enum-told .given .1) at (c .before .before .before .before .before .find .ensures))))
+enter-requires c κs = let p = c .before .before .before .before .before .before .before .before .before .before .before .pre .1 in
+    let k = c .before .before .before .before .before .before .before .before .before .before .before .pre .2 in (
+      c .before .before .before .before .before .before .before .before .before .before .before .pre .0,
+      c .before .before .if1 .left,
+      packed-sound _ _ _ _ _ _ _ k (p .low) (p .high) (p .short) (p .sides) (p .inside) (p .is),
+      rw (packed-name _ _ _ _ _ _ _ k (p .low) (p .high) (p .short) (p .sides) (p .inside) (p .is)) (found-nothing _ (rw (c .before .before .before .enum-told .given .1) at (c .before .before .before .before .before .find .ensures))),
+    )
 
--- src/lookup.rt:80:1
 returns-2 : tie.Need-returns-2
-returns-2 c = let i = found-some _ (rw (c .before .i .given .1) at (c .before .before .before .find .ensures)) in (i, index-small _ (c .before .before .before .before .before .before .before .before .before .before .pre .0) i, refl, refl)
+returns-2 c = let i = found-some _ (rw (c .before .i .given .1) at (c .before .before .before .find .ensures)) in (i, index-small _ (c .before .before .before .before .before .before .before .before .before .pre .0) (found-some _ (rw (c .before .i .given .1) at (c .before .before .before .find .ensures))), refl, refl)
 
--- src/lookup.rt:80:1
 returns-3 : tie.Need-returns-3
-returns-3 c = let p = c .before .before .before .before .before .before .before .before .before .before .before .before .before .pre .1 in let k = c .before .before .before .before .before .before .before .before .before .key-of .ensures .0 in record { new = found-nothing _ (rw (c .before .before .before .before .enum-told .given .1) at (c .before .before .before .before .before .before .find .ensures)); room = c .before .before .before .if1 .left; entry = _; stored = c .enter .ensures .0; named = packed-name _ _ _ _ _ _ _ k (p .low) (p .high) (p .short) (p .sides) (p .inside) (p .is); begins = packed-marked _ _ _ _ _ k (p .sides) (p .short) (p .low) (p .high) .start-is; chained = c .enter .ensures .1 }
+returns-3 c = let p = c .before .before .before .before .before .before .before .before .before .before .before .before .pre .1 in
+    let k = c .before .before .before .before .before .before .before .before .before .before .before .before .pre .2 in
+    record {
+      new = found-nothing _ (rw (c .before .before .before .before .enum-told .given .1) at (c .before .before .before .before .before .before .find .ensures));
+      room = c .before .before .before .if1 .left;
+      entry = _;
+      stored = c .enter .ensures .0;
+      named = packed-name _ _ _ _ _ _ _ k (p .low) (p .high) (p .short) (p .sides) (p .inside) (p .is);
+      begins = packed-marked _ _ _ _ _ k (p .sides) (p .short) (p .low) (p .high) .start-is;
+      chained = c .enter .ensures .1;
+    }
 
 pub note-spec : {M : Type 1} → statement M
 note-spec =
     tie.close
     (tie.spec
-    key-of-requires
     find-requires
     enum-known-i
     enum-told

@@ -22,8 +22,8 @@ returns c = λ xs a.
     let name = c .before .before .before .before .pre .1 in
     refuse-next a r 9 (c .refuse .ensures) (λ z. omega arith) error-9 (rule-9 text (a .progress) r (bad-content text r (content-text (r .kind) (omega arith)) ∙ sym (c .before .before .is-bad .ensures) ∙ c .before .if1 .taken))
 
-again-requires : tie.Need-again-requires
-again-requires c κs = search needs
+key-after-key-requires : tie.Need-key-after-key-requires
+key-after-key-requires c κs = search needs
 
 refuse-requires-2 : tie.Need-refuse-requires-2
 refuse-requires-2 c κs = search needs
@@ -34,7 +34,7 @@ returns-2 c = λ xs a.
     let text = c .before .before .before .before .before .before .args .text .now in
     let name = c .before .before .before .before .before .before .pre .1 in
     let fine = bad-content text r (content-text (r .kind) (omega arith)) ∙ sym (c .before .before .before .before .is-bad .ensures) ∙ c .before .before .before .if1 .left in
-    refuse-next a r 5 (c .refuse2 .ensures) (λ z. omega arith) error-5 (name-again a r name fine (sym (c .before .before .again .ensures) ∙ c .before .if2 .taken))
+    refuse-next a r 5 (c .refuse2 .ensures) (λ z. omega arith) error-5 (name-again a r name fine (sym (c .before .before .key-after-key .ensures) ∙ c .before .if2 .taken))
 
 add-guess : tie.Need-add-guess
 add-guess c = search needs
@@ -65,7 +65,7 @@ returns-3 c = λ xs a.
     let text = c .before .before .before .before .before .before .before .before .before .before .before .args .text .now in
     let fine = bad-content text r (content-text (r .kind) (omega (arith, p .1))) ∙ sym (c .before .before .before .before .before .before .before .before .before .is-bad .ensures) ∙ c .before .before .before .before .before .before .before .before .if1 .left in
     let g = c .before .before .before .is-entry .ensures (c .before .before .if3 .taken) in
-    known-next a r (record { name = p .1; fine = fine; alone = sym (c .before .before .before .before .before .before .before .again .ensures) ∙ c .before .before .before .before .before .before .if2 .left }) (p .0) _ (omega (arith, g .known, p .2 .table .few))
+    known-next a r (record { name = p .1; fine = fine; alone = sym (c .before .before .before .before .before .before .before .key-after-key .ensures) ∙ c .before .before .before .before .before .before .if2 .left }) (p .0) _ (omega (arith, g .known, p .2 .table .few))
     (guessed text r (p .1) fine (p .2) g) (c .known .ensures .0) (c .known .ensures .1)
 
 looked-up-requires : tie.Need-looked-up-requires
@@ -74,7 +74,7 @@ looked-up-requires c κs =
     let r = c .before .before .before .before .before .before .before .before .before .before .before .before .args .row in
     let text = c .before .before .before .before .before .before .before .before .before .before .before .before .args .text .now in
     let fine = bad-content text r (content-text (r .kind) (omega (arith, p .1))) ∙ sym (c .before .before .before .before .before .before .before .before .before .before .is-bad .ensures) ∙ c .before .before .before .before .before .before .before .before .before .if1 .left in
-    (p .0, record { name = p .1; fine = fine; alone = sym (c .before .before .before .before .before .before .before .before .again .ensures) ∙ c .before .before .before .before .before .before .before .if2 .left }, p .2, p .3)
+    (p .0, record { name = p .1; fine = fine; alone = sym (c .before .before .before .before .before .before .before .before .key-after-key .ensures) ∙ c .before .before .before .before .before .before .before .if2 .left }, p .2, p .3)
 
 returns-4 : tie.Need-returns-4
 returns-4 c = search needs
@@ -86,7 +86,7 @@ name-row-spec =
     is-bad-requires
     refuse-requires
     returns
-    again-requires
+    key-after-key-requires
     refuse-requires-2
     returns-2
     add-guess

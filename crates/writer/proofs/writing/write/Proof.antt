@@ -57,7 +57,7 @@ use Rattle.writer.specs.Putting.{Putting}
 use Rattle.writer.specs.Judging.{Verdict}
 use Rattle.writer.specs.Answers.{answerOf, limitOf, rowsIn}
 use Rattle.format.proofs.WalkArray.{repeat-is, array-in, array-out}
-use Rattle.format.proofs.WalkCall.{says-both, calls-plain, array-long}
+use Rattle.format.proofs.WalkCall.{calls-plain, array-long}
 use Rattle.writer.proofs.WriteLaws.{judge-asks, put-asks, put-leaves}
 use Rattle.writer.proofs.state.State as S
 use Rattle.writer.proofs.state.State.Laws as S′
@@ -168,7 +168,7 @@ module _ {M : Type 1} (𝓤 : URA M) (H : Heap 𝓤) (A : Atoms 𝓤) (W : Given
       → ent 𝓤 (⋆ 𝓤 H A ((‵ (flft κo qo) ⊛ ‵ ftrue) ∷ ‵ (flft κt qt) ∷ ‵ (flft κ q) ∷ ‵ (finally u8 γ zs) ∷ ‵ Text ∷ ‵ Rows ∷ [])) (Post u)
   exits r u is e zs e′ len =
       qed W ((‵ (flft κo qo) ⊛ ‵ ftrue) ∷ ‵ (flft κt qt) ∷ ‵ (flft κ q) ∷ ‵ (finally u8 γ zs) ∷ ‵ Text ∷ ‵ Rows ∷ []) ∵
-      suffices ! _ (ends-at 𝓤 H A write.ended stayed (write.clauses 𝓤 H A mem run) W (((κ, (κt, (κo, tt))), (q, (qt, (qo, tt))), tt, x, at), tt) u r (tt, (tt, (zs, tt))) (tt, (tt, (len, tt)))) $ says-both ! e e′ $
+      suffices ! _ (ends-at 𝓤 H A write.ended stayed (write.clauses 𝓤 H A mem run) W (((κ, (κt, (κo, tt))), (q, (qt, (qo, tt))), tt, x, at), tt) u r (tt, (tt, (zs, tt))) (tt, (tt, (len, tt)))) $ says ! (record { answer = e; buffer = e′ }) $
       move ! (1 ∷ 0 ∷ []) $ join ! $ move ! (1 ∷ 0 ∷ []) $ join ! $ frame ! $
       -- [the last bytes; what text owns; what rows owns]
       nothing ! $ move ! (1 ∷ 0 ∷ []) $ fjoin ! $ move ! (1 ∷ 0 ∷ []) $ fjoin ! $ move ! (1 ∷ 0 ∷ []) $ fjoin ! $ frame ! $

@@ -1,20 +1,19 @@
 -- `bad_text` is asked of strings only. Assumes nothing.
 use Rattle.format.specs.Choice.{_&&_}
-use Rattle.format.proofs.Tests.{eqb-yes, eqb-no}
 use borrow.Author.Needs.{needs}
-use Rattle.reader.proofs.item.bad_text.Statement.{statement}
-use Rattle.reader.proofs.item.bad_text.Tie as tie
+use Rattle.wire.proofs.rules.bad_text.Statement.{statement}
+use Rattle.wire.proofs.rules.bad_text.Tie as tie
 
 is-utf8-requires : tie.Need-is-utf8-requires
 is-utf8-requires c κs = search needs
 
 returns : tie.Need-returns
 unfolding _&&_
-returns c = rw (eqb-yes (c .before .if1 .taken), c .is-utf8 .ensures)
+returns c = rw (c .before .if1 .taken, c .is-utf8 .ensures)
 
 returns-2 : tie.Need-returns-2
 unfolding _&&_
-returns-2 c = rw (eqb-no (c .if1 .left))
+returns-2 c = rw (c .if1 .left)
 
 pub bad-text-spec : {M : Type 1} → statement M
 bad-text-spec = tie.close (tie.spec is-utf8-requires returns returns-2)

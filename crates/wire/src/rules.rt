@@ -1,0 +1,28 @@
+// Rules of one item that reading and writing ask alike.
+ghost use mathlib.Core.Path.{_≡_};
+ghost use mathlib.Core.Bool.{not};
+ghost use lib.Dec.{eqb};
+ghost use Rattle.format.specs.Choice.{_&&_};
+ghost use Rattle.format.specs.Utf8.{utf8};
+use crate::utf8::is_utf8;
+use format::Row;
+
+// A key where a key was taken (1) and its value is due.
+pub fn key_after_key(keyed: usize, kind: u8) -> bool
+    ensures { λ r. ⌜ r ≡ (eqb keyed 1 && eqb kind 11) ⌝ }
+{
+    if keyed != 1 {
+        return false;
+    }
+    kind == Row::MAX_KIND
+}
+
+// A string that is not UTF-8; bytes pass.
+pub fn bad_text(string: bool, part: &[u8]) -> bool
+    ensures { λ r. ⌜ r ≡ (string && not (utf8 (now (part .entry)))) ⌝ }
+{
+    if string {
+        return !is_utf8(part);
+    }
+    false
+}
