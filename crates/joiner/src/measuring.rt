@@ -15,6 +15,7 @@ use encoder::putting::Reference;
 use format::Header;
 use format::Row;
 use format::SymbolTable;
+use symbols::entry::key_of;
 use symbols::lookup::Links;
 use symbols::lookup::Noted;
 use symbols::lookup::note;
@@ -136,7 +137,10 @@ fn name<'a>(
     let next = t.at + h.size;
     let e = next + h.payload as usize;
     let old = t.entries;
-    match note(first, second, entries, links, t.names, h.code + 5, side, next, &s[next..e]) {
+    let kind = h.code + 5;
+    let part = &s[next..e];
+    let key = key_of(kind, part);
+    match note(first, second, entries, links, t.names, kind, key, side, next, part) {
         Noted::Known(i) => {
             to[old] = i as u16;
             referred(plan, t, e, old + 1, i as u16)
