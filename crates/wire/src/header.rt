@@ -33,21 +33,6 @@ pub fn number(s: &[u8], a: usize, n: usize) -> u64
     p
 }
 
-// The payload in n bytes from a on: out of eight where there are as many, since how many are asked for cannot be foretold.
-fn payload(s: &[u8], a: usize, n: usize) -> u64
-    requires { ⌜ (a + n ≤ length (now s)) × (1 ≤ n) × (n ≤ 8) ⌝ }
-    ensures { λ r. ⌜ r ≡ bigEndian 0 (take n (drop a (now (s .entry)))) ⌝ }
-{
-    if 8 <= s.len() - a {
-        return number(s, a, 8) >> (8 * (8 - n));
-    }
-    if n == 1 {
-        return s[a] as u64;
-    }
-    let b = s[a + n - 1];
-    payload(s, a, n - 1) * 256 + b as u64
-}
-
 // How many bytes follow a lead byte.
 fn following(code: u8, sz: u8) -> usize
     requires { ⌜ sz < 32 ⌝ }
@@ -119,7 +104,7 @@ pub fn header_at(s: &[u8], at: usize) -> Head
     Head::Whole(Header {
         code,
         sz,
-        payload: payload(s, b, n),
+        payload: number(s, b, n),
         size: 1 + n,
     })
 }
