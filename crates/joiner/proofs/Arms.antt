@@ -4,7 +4,7 @@ use mathlib.Core.Logic.{_≢_}
 use mathlib.Core.Bool.{true, false, not}
 use mathlib.Core.List.{List, [], _∷_, _++_, append-nil}
 use mathlib.Core.Option.{some}
-use Prim.Native.Nat.{ℕ, _+_, _-_, _/_, _%_, _≤_, _<_, suc}
+use Prim.Native.Nat.{ℕ, _+_, _-_, _/_, _%_, _^_, _≤_, _<_, min, suc}
 use native.Mathlib.Nat.{add-zero}
 use native.Mathlib.Omega.{arith}
 use lib.Dec.{leb, ltb, eqb}
@@ -12,16 +12,17 @@ use lib.ListN.{length, take, drop, getElem?, length-append, length-drop}
 use lib.Seq.{length-take-le}
 use Rattle.format.specs.declared.header.Header.{Header}
 use Rattle.format.specs.Choice.{pick, _&&_}
-use Rattle.format.specs.Header.{header, headerOf, digits, following}
+use Rattle.format.specs.Header.{header, headerOf, digits, following, shift, width, widthFrom}
 use Rattle.format.specs.Item.{Item, isName, isText}
 use Rattle.format.specs.Utf8.{utf8}
 use Rattle.format.specs.Reading.{Found, State, Form, fixed, content, reference, formOf, isContent, itemOf, after}
 use Rattle.format.specs.Canonical.{full}
-use Rattle.format.proofs.Tests.{clash, equal, order, eqb-yes, eqb-no, eqb-true, leb-true, leb-false, leb-yes, leb-no, ltb-false, ltb-yes, ltb-no, and-true, and-right, and-no-left, and-no-right, and-yes, not-false, pick-yes, pick-no, some-inj, none-some}
-use Rattle.format.proofs.Headers.{following-small}
+use Rattle.format.proofs.Tests.{cases, clash, equal, order, eqb-yes, eqb-no, eqb-true, leb-true, leb-false, leb-yes, leb-no, ltb-false, ltb-yes, ltb-no, and-true, and-right, and-no-left, and-no-right, and-yes, not-false, pick-yes, pick-no, some-inj, none-some}
+use Rattle.format.proofs.Headers.{following-none, following-small, payload-inside}
 use Rattle.format.proofs.Encoding.{full-other, no-name}
 use Rattle.format.proofs.Names.{item-path}
 use Rattle.symbols.specs.Entry.{name}
+use Rattle.wire.proofs.OutputLaws.{header-short}
 use Rattle.encoder.proofs.Lengths.{full-fixed, length-fixed}
 use Rattle.joiner.specs.Items.{numberOf, sized}
 use Rattle.joiner.proofs.Turns.{Turn}
@@ -80,6 +81,32 @@ header-size (b ∷ bs) h e =
     order (following (b / 32) (b % 32)) (length bs)
     (λ l. let q = some-inj (e ∙ pick-yes _ _ (leb-yes l)) in rw q refl)
     (λ l. none-some (sym (e ∙ pick-no _ _ (leb-no l))))
+
+-- What stands in one byte stays in one byte.
+header-inside : (bs : List ℕ) (h : Header) → some h ≡ headerOf bs → following (h .code) (h .sz) ≡ 0 → h .payload ≡ h .sz - shift (h .code)
+unfolding headerOf
+header-inside [] h e z = none-some (sym e)
+header-inside (b ∷ bs) h e z =
+    order (following (b / 32) (b % 32)) (length bs)
+    (λ l. let q = some-inj (e ∙ pick-yes _ _ (leb-yes l)) in rw q (payload-inside (b / 32) (b % 32) (following (b / 32) (b % 32)) bs (rw q at z)))
+    (λ l. none-some (sym (e ∙ pick-no _ _ (leb-no l))))
+
+pub one-byte : (bs : List ℕ) (h : Header) → some h ≡ headerOf bs → h .size ≡ 1 → 1 ≡ length (header (h .code) (h .payload))
+unfolding shift pick
+one-byte bs h e o =
+    let z : following (h .code) (h .sz) ≡ 0 = omega (arith, header-size bs h e) in
+    let l = following-none (h .code) (h .sz) z in
+    let p = header-inside bs h e z in
+    let short : h .payload + shift (h .code) < 24 = cases (eqb (h .code) 0) (λ c. rw c (let q = rw c at p in omega arith)) (λ c. rw c (let q = rw c at p in omega arith)) in
+    sym (ap length (header-short (h .code) (h .payload) short))
+
+-- The negative alias and the least integer have headers of one length.
+pub number-length : (code p : ℕ) → p < 2 ^ 64 → length (header code p) ≡ length (header code (numberOf code p))
+unfolding numberOf pick header width widthFrom digits shift
+number-length code p l =
+    order p (2 ^ 64 - 2)
+    (λ m. let q : min p (2 ^ 64 - 2) ≡ p = omega arith in rw q (cases (eqb code 2) (λ c. rw c) (λ c. rw c)))
+    (λ m. let q : p ≡ 2 ^ 64 - 1 = omega arith in cases (eqb code 2) (λ c. rw (q, eqb-true code 2 c)) (λ c. rw c))
 
 -- ---- items
 

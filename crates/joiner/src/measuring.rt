@@ -10,7 +10,7 @@ ghost use Rattle.format.specs.Reading.{State};
 ghost use Rattle.joiner.specs.Measuring.{tallied, Bundled, Partway, Onward, Here, Begun, Ready, Measures};
 use crate::item::is_fixed;
 use crate::item::is_number;
-use crate::item::number_of;
+use crate::item::shortest_len;
 use encoder::putting::Reference;
 use format::Header;
 use format::Row;
@@ -56,13 +56,13 @@ fn after(t: Tally, at: usize, entries: usize, names: usize, n: usize) -> Tally
     }
 }
 
-// After an item whose content of p bytes begins at next.
-fn held(t: Tally, next: usize, code: u8, p: u64) -> Tally
-    requires { ⌜ (t .row < 1024) × (t .size + 16393 < 2 ^ 64) × (next ≤ 16384) × (p ≤ 16384) ⌝ }
-    ensures { λ r. ⌜ r ≡ tallied t (next + p) (t .entries) (t .names) (length (header code p) + p) ⌝ }
+// After an item with a header of n bytes and content of p bytes, which begins at next.
+fn held(t: Tally, next: usize, n: usize, p: u64) -> Tally
+    requires { ⌜ (t .row < 1024) × (t .size + 16393 < 2 ^ 64) × (next ≤ 16384) × (n ≤ 9) × (p ≤ 16384) ⌝ }
+    ensures { λ r. ⌜ r ≡ tallied t (next + p) (t .entries) (t .names) (n + p) ⌝ }
 {
-    let n = p as usize;
-    after(t, next + n, t.entries, t.names, header_len(code, p) + n)
+    let content = p as usize;
+    after(t, next + content, t.entries, t.names, n + content)
 }
 
 // After a name that has an index.
@@ -98,21 +98,14 @@ fn reference(
     referred(plan, t, next, t.entries, to[i])
 }
 
-// A name in full from next to e, which is new.
-fn fresh(
-    plan: &mut [u16; Row::MAX_COUNT],
-    t: Tally,
-    e: usize,
-    code: u8,
-    p: u64,
-) -> Tally
-    requires { ⌜ (length (now plan) ≡ 1024) × (t .row < 1024) × (t .size + 16393 < 2 ^ 64) × (p ≤ 16384) × (t .entries < 256) × (t .names < 256) ⌝ }
-    ensures state { λ r. ⌜ r ≡ tallied t e (t .entries + 1) (t .names + 1) (length (header code p) + p) ⌝ }
+// A name of n bytes in full that ends at e, which is new.
+fn fresh(plan: &mut [u16; Row::MAX_COUNT], t: Tally, e: usize, n: usize) -> Tally
+    requires { ⌜ (length (now plan) ≡ 1024) × (t .row < 1024) × (t .size + 16393 < 2 ^ 64) × (n ≤ 16393) × (t .entries < 256) × (t .names < 256) ⌝ }
+    ensures state { λ r. ⌜ r ≡ tallied t e (t .entries + 1) (t .names + 1) n ⌝ }
     ensures planned { λ _. ⌜ now (plan .exit) ≡ set (now (plan .entry)) (t .row) 256 ⌝ }
 {
     let row = t.row;
     plan[row] = Reference::FULL;
-    let n = header_len(code, p) + p as usize;
     after(t, e, t.entries + 1, t.names + 1, n)
 }
 
@@ -147,7 +140,7 @@ fn name<'a>(
         }
         Noted::Entered => {
             to[old] = t.names as u16;
-            fresh(plan, t, e, h.code, h.payload)
+            fresh(plan, t, e, shortest_len(h) + (e - next))
         }
         Noted::Full => Tally {
             at: s.len(),
@@ -181,7 +174,7 @@ fn headed<'a>(
     let code = h.code;
     let p = h.payload;
     if is_number(code) {
-        return after(t, next, t.entries, t.names, header_len(code, number_of(code, p)));
+        return after(t, next, t.entries, t.names, shortest_len(h));
     }
     if 7 <= code {
         return reference(to, plan, t, next, p);
@@ -192,7 +185,7 @@ fn headed<'a>(
     if is_fixed(code, h.sz) {
         return after(t, next, t.entries, t.names, h.size);
     }
-    held(t, next, code, p)
+    held(t, next, shortest_len(h), p)
 }
 
 // The next item.
