@@ -6,5 +6,6 @@ pub mod LocalRule
 pub mod AsciiRuns
 pub mod Ranges
 pub mod Wrote
+pub mod Powers
 pub mod OutputLaws
 pub mod WidthLaws

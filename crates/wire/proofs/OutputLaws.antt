@@ -3,26 +3,20 @@ use mathlib.Core.Path.{_≡_, refl, ap, sym, _∙_}
 use mathlib.Core.Bool.{Bool, true, false}
 use mathlib.Core.List.{List, [], _∷_, _++_}
 use Prim.Native.Nat.{ℕ, zero, suc, _+_, _-_, _*_, _/_, _%_, _^_, _≤_, _<_}
-use native.Mathlib.Nat.{pow-suc}
 use native.Mathlib.Numerals.{add-one}
 use native.Mathlib.Omega.{arith}
 use lib.Dec.{ltb}
 use lib.ListN.{length, take, drop, getD, set, length-set}
-use lib.Pow.{pow-add}
 use lib.Seq.{drop-cons, drop-length}
 use borrow.Rule.Slice.PartMut.{putMid}
 use Rattle.format.specs.Header.{digits, shift, width, widthFrom, header}
 use Rattle.format.proofs.Tests.{cases, ltb-yes, ltb-no, pick-yes, pick-no}
 use Rattle.format.proofs.Numbers.{length-digits, digits-first}
 use Rattle.format.proofs.Headers.{length-short}
+use Rattle.wire.proofs.Powers.{pow-256}
 use Rattle.wire.proofs.Wrote.{Wrote, start, byte-as, finish, byte-fits, byte-then}
 
 -- ---- numbers
-
-pow-256 : (k : ℕ) → 256 ^ k ≡ 2 ^ (8 * k)
-pow-256 zero = refl
-pow-256 (suc k) =
-    pow-suc 256 k ∙ ap (λ (x : ℕ). x * 256) (pow-256 k) ∙ sym (pow-add 2 (8 * k) 8) ∙ ap (λ (x : ℕ). 2 ^ x) (omega arith)
 
 -- one digit, and those after it; e is how far the number is shifted
 pub digits-step : (k i n e : ℕ) → i < k → e ≡ 8 * (k - 1 - i) → digits (k - i) n ≡ n / 2 ^ e % 256 ∷ digits (k - (i + 1)) n

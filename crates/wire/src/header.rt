@@ -20,9 +20,6 @@ pub fn number(s: &[u8], a: usize, n: usize) -> u64
     requires { ⌜ (a + n ≤ length (now s)) × (n ≤ 8) ⌝ }
     ensures { λ r. ⌜ r ≡ bigEndian 0 (take n (drop a (now (s .entry)))) ⌝ }
 {
-    if n == 1 {
-        return s[a] as u64;
-    }
     let mut p: u64 = 0;
     let mut i = 0;
     while i < n {
@@ -31,6 +28,30 @@ pub fn number(s: &[u8], a: usize, n: usize) -> u64
         i += 1;
     }
     p
+}
+
+// How many bytes to read for n of them: eight where there are as many, since how often a loop goes round has to be foretold.
+fn span(left: usize, n: usize) -> usize
+    requires { ⌜ (n ≤ left) × (n ≤ 8) ⌝ }
+    ensures { λ r. ⌜ (n ≤ r) × (r ≤ left) × (r ≤ 8) ⌝ }
+{
+    if 8 <= left {
+        return 8;
+    }
+    n
+}
+
+// The payload in n bytes from a on.
+fn payload(s: &[u8], a: usize, n: usize) -> u64
+    requires { ⌜ (a + n ≤ length (now s)) × (1 ≤ n) × (n ≤ 8) ⌝ }
+    ensures { λ r. ⌜ r ≡ bigEndian 0 (take n (drop a (now (s .entry)))) ⌝ }
+{
+    // most payloads that are not in the lead byte
+    if n == 1 {
+        return s[a] as u64;
+    }
+    let m = span(s.len() - a, n);
+    number(s, a, m) >> (8 * (m - n))
 }
 
 // How many bytes follow a lead byte.
@@ -104,7 +125,7 @@ pub fn header_at(s: &[u8], at: usize) -> Head
     Head::Whole(Header {
         code,
         sz,
-        payload: number(s, b, n),
+        payload: payload(s, b, n),
         size: 1 + n,
     })
 }

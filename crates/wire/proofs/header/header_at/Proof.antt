@@ -40,14 +40,14 @@ inline-payload-requires c κs = search needs
 returns-4 : tie.Need-returns-4
 returns-4 c = sym (whole-header _ _ (c .before .before .before .before .before .before .if1 .left) _ (c .before .before .before .following .ensures) (c .before .before .if4 .left) _ _ (c .inline-payload .ensures ∙ sym (payload-inside _ _ _ _ (c .before .if5 .taken))) (omega arith))
 
-number-requires : tie.Need-number-requires
-number-requires c κs = (omega arith, rw (c .before .before .following .ensures) (following-le _ _ (omega arith)))
+payload-requires : tie.Need-payload-requires
+payload-requires c κs = (omega arith, omega arith, rw (c .before .before .following .ensures) (following-le _ _ (omega arith)))
 
 add-t8 : tie.Need-add-t8
 add-t8 c = search needs
 
 returns-5 : tie.Need-returns-5
-returns-5 c = sym (whole-header _ _ (c .before .before .before .before .before .before .if1 .left) _ (c .before .before .before .following .ensures) (c .before .before .if4 .left) _ _ (c .number .ensures ∙ sym (payload-after _ _ _ _ (c .before .if5 .left))) refl)
+returns-5 c = sym (whole-header _ _ (c .before .before .before .before .before .before .if1 .left) _ (c .before .before .before .following .ensures) (c .before .before .if4 .left) _ _ (c .payload .ensures ∙ sym (payload-after _ _ _ _ (c .before .if5 .left))) refl)
 
 pub header-at-spec : {M : Type 1} → statement M
 header-at-spec =
@@ -64,6 +64,6 @@ header-at-spec =
     returns-3
     inline-payload-requires
     returns-4
-    number-requires
+    payload-requires
     add-t8
     returns-5)

@@ -5,7 +5,7 @@ use native.Mathlib.Omega.{arith}
 use lib.ListN.{take, drop, getD}
 use borrow.Author.Needs.{needs}
 use Rattle.format.specs.Header.{bigEndian}
-use Rattle.wire.proofs.HeaderLaws.{bigEndian-step, more, most, bigEndian-one}
+use Rattle.wire.proofs.HeaderLaws.{bigEndian-step, more, most}
 use Rattle.wire.proofs.header.number.Statement.{statement}
 use Rattle.wire.proofs.header.number.Tie as tie
 
@@ -14,15 +14,6 @@ Inv-loop s a n p₀ i₀ p i = (i ≤ n) × (p ≡ bigEndian 0 (take i (drop a s
 
 abbrev μ-loop : tie.MeasureT-loop
 μ-loop s a n p₀ i₀ p i = n - i
-
-shared-slice-read-result : tie.Need-shared-slice-read-result Inv-loop μ-loop
-shared-slice-read-result c = search needs
-
-cast-result : tie.Need-cast-result Inv-loop μ-loop
-cast-result c = omega (arith, c .shared-slice-known .given (c .before .before .args .a))
-
-returns : tie.Need-returns Inv-loop μ-loop
-returns c = bigEndian-one (c .before .before .args .s .now) (c .before .before .args .a) _ (c .before .if1 .taken) (omega arith)
 
 loop-holds : tie.Need-loop-holds Inv-loop μ-loop
 unfolding bigEndian
@@ -35,13 +26,13 @@ shared-slice-read-b : tie.Need-shared-slice-read-b Inv-loop μ-loop
 shared-slice-read-b c = search needs
 
 mul-p : tie.Need-mul-p Inv-loop μ-loop
-mul-p c = omega (arith, more (c .before .before .loop .p) (getD (c .before .before .before .before .args .s .now) (c .before .before .before .before .args .a + c .before .before .loop .i) 0) (c .before .before .loop .i) (c .before .before .loop .inv .2) (omega (arith, c .shared-slice-known2 .given (c .before .before .before .before .args .a + c .before .before .loop .i))), most (c .before .before .loop .i) (omega arith))
+mul-p c = omega (arith, more (c .before .before .loop .p) (getD (c .before .before .before .args .s .now) (c .before .before .before .args .a + c .before .before .loop .i) 0) (c .before .before .loop .i) (c .before .before .loop .inv .2) (omega (arith, c .shared-slice-known .given (c .before .before .before .args .a + c .before .before .loop .i))), most (c .before .before .loop .i) (omega arith))
 
 cast-p : tie.Need-cast-p Inv-loop μ-loop
-cast-p c = omega (arith, c .shared-slice-known2 .given (c .before .before .before .before .args .a + c .before .before .loop .i))
+cast-p c = omega (arith, c .shared-slice-known .given (c .before .before .before .args .a + c .before .before .loop .i))
 
 add-p : tie.Need-add-p Inv-loop μ-loop
-add-p c = omega (arith, more (c .before .before .loop .p) (getD (c .before .before .before .before .args .s .now) (c .before .before .before .before .args .a + c .before .before .loop .i) 0) (c .before .before .loop .i) (c .before .before .loop .inv .2) (omega (arith, c .shared-slice-known2 .given (c .before .before .before .before .args .a + c .before .before .loop .i))), most (c .before .before .loop .i) (omega arith))
+add-p c = omega (arith, more (c .before .before .loop .p) (getD (c .before .before .before .args .s .now) (c .before .before .before .args .a + c .before .before .loop .i) 0) (c .before .before .loop .i) (c .before .before .loop .inv .2) (omega (arith, c .shared-slice-known .given (c .before .before .before .args .a + c .before .before .loop .i))), most (c .before .before .loop .i) (omega arith))
 
 add-i : tie.Need-add-i Inv-loop μ-loop
 add-i c = search needs
@@ -50,10 +41,10 @@ loop-less : tie.Need-loop-less Inv-loop μ-loop
 loop-less c = search needs
 
 loop-again : tie.Need-loop-again Inv-loop μ-loop
-loop-again c = (omega arith, ap (λ (x : ℕ). x * 256 + getD (c .before .before .before .before .args .s .now) (c .before .before .before .before .args .a + c .before .before .loop .i) 0) (c .before .before .loop .inv .1) ∙ sym (bigEndian-step (c .before .before .before .before .args .s .now) (c .before .before .before .before .args .a) (c .before .before .loop .i) (omega arith)), more (c .before .before .loop .p) (getD (c .before .before .before .before .args .s .now) (c .before .before .before .before .args .a + c .before .before .loop .i) 0) (c .before .before .loop .i) (c .before .before .loop .inv .2) (omega (arith, c .shared-slice-known2 .given (c .before .before .before .before .args .a + c .before .before .loop .i))))
+loop-again c = (omega arith, ap (λ (x : ℕ). x * 256 + getD (c .before .before .before .args .s .now) (c .before .before .before .args .a + c .before .before .loop .i) 0) (c .before .before .loop .inv .1) ∙ sym (bigEndian-step (c .before .before .before .args .s .now) (c .before .before .before .args .a) (c .before .before .loop .i) (omega arith)), more (c .before .before .loop .p) (getD (c .before .before .before .args .s .now) (c .before .before .before .args .a + c .before .before .loop .i) 0) (c .before .before .loop .i) (c .before .before .loop .inv .2) (omega (arith, c .shared-slice-known .given (c .before .before .before .args .a + c .before .before .loop .i))))
 
-returns-2 : tie.Need-returns-2 Inv-loop μ-loop
-returns-2 c = let e : c .before .loop .i ≡ c .before .before .before .args .n = omega arith in c .before .loop .inv .1 ∙ ap (λ (x : ℕ). bigEndian 0 (take x (drop (c .before .before .before .args .a) (c .before .before .before .args .s .now)))) e
+returns : tie.Need-returns Inv-loop μ-loop
+returns c = let e : c .before .loop .i ≡ c .before .before .args .n = omega arith in c .before .loop .inv .1 ∙ ap (λ (x : ℕ). bigEndian 0 (take x (drop (c .before .before .args .a) (c .before .before .args .s .now)))) e
 
 pub number-spec : {M : Type 1} → statement M
 number-spec =
@@ -61,9 +52,6 @@ number-spec =
     (tie.spec
     Inv-loop
     μ-loop
-    shared-slice-read-result
-    cast-result
-    returns
     loop-holds
     add-b
     shared-slice-read-b
@@ -73,4 +61,4 @@ number-spec =
     add-i
     loop-less
     loop-again
-    returns-2)
+    returns)
