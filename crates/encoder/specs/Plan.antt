@@ -1,21 +1,17 @@
 -- Items measured one after the other: the table of their names, their canonical length, and for each name how it is written.
-use Prim.Native.Nat.{ℕ, _≤_, _<_}
+use Prim.Native.Nat.{ℕ, _≤_}
 use mathlib.Core.Path.{_≡_}
-use mathlib.Core.Bool.{true, false}
+use mathlib.Core.Bool.{true}
 use mathlib.Core.List.{List, []}
 use mathlib.Core.Option.{Option, none, some}
 use lib.Dec.{ltb}
 use lib.ListN.{length, take, getD, getElem?}
-use Rattle.format.specs.declared.row.Row.{Row}
 use Rattle.format.specs.Choice.{pick}
-use Rattle.format.specs.WellFormed.{All}
 use Rattle.format.specs.Header.{header}
 use Rattle.format.specs.Item.{Item, isName}
 use Rattle.format.specs.Names.{index, namesFrom}
 use Rattle.format.specs.Utf8.{utf8}
 use Rattle.format.specs.Canonical.{canonical, full}
-use Rattle.format.specs.Rows.{itemsAt}
-use Rattle.format.specs.Writing.{isBad}
 use Rattle.symbols.specs.Entry.{namesIn}
 use Rattle.symbols.specs.Chains.{Chained}
 

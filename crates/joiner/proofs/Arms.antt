@@ -1,14 +1,13 @@
 -- What the item of a turn is, by the code of its header: its kind, and how it stands in full. Assumes nothing.
 use mathlib.Core.Path.{_≡_, refl, sym, ap, _∙_}
-use mathlib.Core.Logic.{_≢_}
-use mathlib.Core.Bool.{true, false, not}
+use mathlib.Core.Bool.{true, false}
 use mathlib.Core.List.{List, [], _∷_, _++_, append-nil}
 use mathlib.Core.Option.{some}
 use Prim.Native.Nat.{ℕ, _+_, _-_, _/_, _%_, _^_, _≤_, _<_, min, suc}
 use native.Mathlib.Nat.{add-zero}
 use native.Mathlib.Omega.{arith}
 use lib.Dec.{leb, ltb, eqb}
-use lib.ListN.{length, take, drop, getElem?, length-append, length-drop}
+use lib.ListN.{length, take, drop, getElem?, length-append}
 use lib.Seq.{length-take-le}
 use Rattle.format.specs.declared.header.Header.{Header}
 use Rattle.format.specs.Choice.{pick, _&&_}

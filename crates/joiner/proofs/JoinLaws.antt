@@ -1,7 +1,7 @@
 -- From what checking answers to what joining and canonicalizing promise. Assumes nothing.
 use mathlib.Core.Path.{_≡_, refl, sym, ap, subst, _∙_}
 use mathlib.Core.List.{List, [], _++_, append-nil}
-use Prim.Native.Nat.{ℕ, _+_, _≤_, _<_, _^_, min}
+use Prim.Native.Nat.{ℕ, _+_, _≤_, min}
 use native.Mathlib.Nat.{add-zero}
 use native.Mathlib.Omega.{arith}
 use lib.ListN.{length}
@@ -28,7 +28,7 @@ use Rattle.writer.specs.Answers as writer
 use Rattle.joiner.specs.declared.merging.Joined.{Joined}
 use Rattle.joiner.specs.declared.merging.Joined.the-variants.{Failed}
 use Rattle.joiner.specs.Answers.{answerOf}
-use Rattle.joiner.specs.Laws.{Joins, Canonicalizes}
+use Rattle.joiner.specs.Promises.{Joins, Canonicalizes}
 use Rattle.joiner.specs.Merging.{Both}
 
 -- ---- what checking says

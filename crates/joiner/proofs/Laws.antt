@@ -19,7 +19,8 @@ use Rattle.format.proofs.Laws as definition
 use Rattle.joiner.specs.declared.merging.Joined.{Joined}
 use Rattle.joiner.specs.declared.merging.Joined.the-variants.{Done, Failed}
 use Rattle.joiner.specs.Answers.{answerOf}
-use Rattle.joiner.specs.Laws.{Demand3, Joins, OfThree, OfTwo, Refused, Way, Yields, error, left-first, right-first}
+use Rattle.joiner.specs.Promises.{Joins}
+use Rattle.joiner.specs.Laws.{Demand3, OfThree, OfTwo, Refused, Way, Yields, error, left-first, right-first}
 
 -- ---- answers
 

@@ -4,7 +4,6 @@ use mathlib.Core.Bool.{true}
 use mathlib.Core.List.{List, [], _∷_, _++_, append-assoc}
 use mathlib.Core.Option.{Option, none, some}
 use Prim.Native.Nat.{ℕ, _+_, _≤_, _<_, _^_}
-use native.Mathlib.Nat.{le-trans}
 use native.Mathlib.Omega.{arith}
 use lib.ListN.{length, take, drop, getD, set, getElem?, length-set, length-append, length-drop}
 use lib.Seq.{getD-set-same, getD-set-other, length-take-le}
@@ -12,20 +11,19 @@ use Rattle.format.specs.declared.header.Header.{Header}
 use Rattle.format.specs.Header.{header, headerOf}
 use Rattle.format.specs.Item.{Item, isName}
 use Rattle.format.specs.Names.{index, namesFrom, noted}
-use Rattle.format.specs.Reading.{Found, State, after, content, formOf, itemsOf}
+use Rattle.format.specs.Reading.{State, after, content, formOf, itemsOf}
 use Rattle.format.specs.Canonical.{full}
-use Rattle.format.proofs.Lists.{items-append, items-at, items-snoc, length-items}
+use Rattle.format.proofs.Lists.{items-at, items-snoc, length-items}
 use Rattle.format.proofs.Names.{index-at, index-last, names-append, names-longer, noted-fresh, noted-known}
 use Rattle.format.proofs.Headers.{size-within}
 use Rattle.format.proofs.Encoding.{at-lt}
-use Rattle.symbols.specs.Entry.{Part, name, namesIn, sideOf}
+use Rattle.symbols.specs.Entry.{Part, name, namesIn}
 use Rattle.symbols.specs.Noting.{Entered}
 use Rattle.symbols.proofs.ChainLaws.{length-names}
 use Rattle.encoder.specs.Plan.{Measured}
 use Rattle.encoder.proofs.Lengths.{header-most}
 use Rattle.encoder.proofs.MeasureLaws.{measure-plain, measure-known, measure-fresh, names-more}
 use Rattle.joiner.specs.declared.measuring.Tally.{Tally}
-use Rattle.joiner.specs.Items.{numberOf}
 use Rattle.joiner.specs.Measuring.{tallied, Mapped, Bundled, Partway, Onward, on, over}
 use Rattle.joiner.proofs.MapLaws.{mapped-noted, mapped-entry}
 use Rattle.joiner.proofs.Turns.{Turn, turn}

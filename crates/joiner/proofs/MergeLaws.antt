@@ -1,5 +1,5 @@
 -- Two bundles that read, measured one after the other and then written: what each way out means. Assumes nothing.
-use mathlib.Core.Path.{_≡_, refl, sym, ap, _∙_}
+use mathlib.Core.Path.{_≡_, refl, ap, _∙_}
 use mathlib.Core.Bool.{true, false}
 use mathlib.Core.List.{List, [], _++_, append-nil}
 use Prim.Native.Nat.{ℕ, _+_, _≤_, _<_, min, zero-le}
@@ -8,25 +8,24 @@ use lib.Dec.{ltb}
 use lib.ListN.{length, replicate, length-append, length-replicate}
 use Rattle.format.specs.declared.error.Error.the-variants.{OutputTooLong, TooManyEntries, TooManyRows}
 use Rattle.format.specs.Limits.{max-bytes}
-use Rattle.format.specs.Answer.{counted, fail, failed, good, onSide, stored, then}
+use Rattle.format.specs.Answer.{counted, fail, good, onSide, stored, then}
 use Rattle.format.specs.Item.{Item}
 use Rattle.format.specs.Names.{namesFrom}
-use Rattle.format.specs.Reading.{State, items, itemsOf, lenient, reading}
+use Rattle.format.specs.Reading.{items, itemsOf, lenient}
 use Rattle.format.specs.Canonical.{canonical, canonicalFrom}
 use Rattle.format.specs.Joining.{joining, together}
 use Rattle.format.proofs.Tests.{leb-true, ltb-false}
 use Rattle.format.proofs.Lists.{length-items}
 use Rattle.format.proofs.ReadBack.{reading-reads}
 use Rattle.format.proofs.Bounds.{reading-within}
-use Rattle.format.proofs.Joins.{Fits, together-fits, together-names, together-rows, together-size}
-use Rattle.symbols.specs.Entry.{sideOf}
+use Rattle.format.proofs.Joins.{together-fits, together-names, together-rows, together-size}
 use Rattle.symbols.proofs.EntryLaws.{side-first, side-second}
 use Rattle.symbols.proofs.ChainLaws.{length-names}
 use Rattle.encoder.proofs.MeasureLaws.{measured-none}
 use Rattle.joiner.specs.declared.measuring.Tally.{Tally}
 use Rattle.joiner.specs.declared.merging.Joined.the-variants.{Done, Failed}
 use Rattle.joiner.specs.declared.putting.Spot.{Spot}
-use Rattle.joiner.specs.Laws.{Joins}
+use Rattle.joiner.specs.Promises.{Joins}
 use Rattle.joiner.specs.Measuring.{Begun, Measures, Tallied, all, over}
 use Rattle.joiner.specs.Putting.{Planning, Put}
 use Rattle.joiner.specs.Merging.{Both, begun, top}

@@ -2,7 +2,7 @@
 use mathlib.Core.Path.{_≡_, refl, sym, ap, _∙_, subst}
 use mathlib.Core.Bool.{true, false}
 use mathlib.Core.List.{List, [], _∷_, _++_, append-assoc}
-use mathlib.Core.Option.{none, some}
+use mathlib.Core.Option.{some}
 use Prim.Native.Nat.{ℕ, _+_, _-_, _≤_, _<_}
 use native.Mathlib.Nat.{le-trans}
 use native.Mathlib.Omega.{arith}
@@ -14,26 +14,26 @@ use Rattle.format.specs.Choice.{_&&_}
 use Rattle.format.specs.Header.{headerOf}
 use Rattle.format.specs.Item.{Item, isName}
 use Rattle.format.specs.Names.{index, namesFrom, noted}
-use Rattle.format.specs.Reading.{State, after, content, formOf, isContent, itemsOf}
+use Rattle.format.specs.Reading.{State, after, formOf, isContent, itemsOf}
 use Rattle.format.specs.Canonical.{canonical, full}
-use Rattle.format.proofs.Tests.{cases, order, and-true, and-right, leb-false, ltb-false, ltb-yes, pick-yes, pick-no}
+use Rattle.format.proofs.Tests.{cases, order, and-true, and-right, leb-false, ltb-false, pick-yes, pick-no}
 use Rattle.format.proofs.Lists.{items-at, items-snoc, length-items}
 use Rattle.format.proofs.Headers.{size-within}
 use Rattle.format.proofs.Names.{index-at}
 use Rattle.format.proofs.Encoding.{at-lt}
 use Rattle.format.proofs.Bounds.{noted-self}
-use Rattle.encoder.specs.Output.{Puts, PutsAt}
+use Rattle.encoder.specs.Output.{PutsAt}
 use Rattle.encoder.specs.Plan.{Planned, encodedAt, referTo, referring}
 use Rattle.encoder.proofs.MeasureLaws.{names-more}
 use Rattle.encoder.proofs.PutLaws.{at-seam, canonical-within, names-fewer, one-fits, puts-more}
 use Rattle.encoder.proofs.OutputLaws.{by-reference}
 use Rattle.joiner.specs.declared.putting.Spot.{Spot}
-use Rattle.joiner.specs.Items.{rewritten, sized, contentLength, Whole}
+use Rattle.joiner.specs.Items.{rewritten, contentLength, Whole}
 use Rattle.joiner.specs.Measuring.{Mapped}
 use Rattle.joiner.specs.Putting.{Planning, Putting, Onward}
 use Rattle.joiner.proofs.MapLaws.{mapped-noted, mapped-entry}
 use Rattle.joiner.proofs.Turns.{Turn, turn}
-use Rattle.joiner.proofs.Arms.{number-code, fixed-code, form-held, form-reference, Plain, number-plain, number-full, fixed-plain, fixed-full, content-plain, content-full, name-is, reference-entry}
+use Rattle.joiner.proofs.Arms.{number-code, fixed-code, form-held, number-plain, number-full, fixed-plain, fixed-full, content-plain, content-full, name-is, reference-entry}
 use Rattle.joiner.proofs.Rewritten.{rewritten-number, rewritten-reference, rewritten-fixed, rewritten-name, rewritten-sized}
 
 module _ {s : List ℕ} {zs ws : List Item} {u : State} {plan old : List ℕ} (g : Planning s zs ws u plan (length old)) {new : List ℕ} {w : Spot} (p : Putting s zs u old new w)

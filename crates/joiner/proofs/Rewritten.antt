@@ -7,7 +7,7 @@ use native.Mathlib.Nat.{add-zero}
 use lib.Dec.{leb, ltb, eqb}
 use lib.ListN.{length}
 use Rattle.format.specs.declared.header.Header.{Header}
-use Rattle.format.specs.Choice.{pick, _&&_}
+use Rattle.format.specs.Choice.{_&&_}
 use Rattle.format.specs.Header.{header}
 use Rattle.format.specs.Reading.{Form, formOf, isContent}
 use Rattle.format.specs.Canonical.{full}

@@ -1,30 +1,20 @@
 -- One item of a bundle that reads: what its header says it is, by its code. Assumes nothing.
 use mathlib.Core.Path.{_≡_, refl, sym, ap, _∙_, subst}
-use mathlib.Core.Logic.{_≢_}
-use mathlib.Core.Bool.{true, false, not}
 use mathlib.Core.List.{List, [], _∷_, _++_, append-assoc}
 use mathlib.Core.Option.{none, some}
-use Prim.Native.Nat.{ℕ, _+_, _-_, _/_, _%_, _≤_, _<_}
+use Prim.Native.Nat.{ℕ, _+_, _-_, _≤_, _<_}
 use native.Mathlib.Omega.{arith}
-use lib.Dec.{leb, ltb}
-use lib.ListN.{length, take, drop, getElem?, length-append, length-drop}
-use lib.Seq.{drop-drop, length-take-le}
+use lib.ListN.{length, drop, length-drop}
+use lib.Seq.{drop-drop}
 use Rattle.format.specs.declared.header.Header.{Header}
-use Rattle.format.specs.Choice.{pick, _&&_}
 use Rattle.format.specs.Answer.{good}
-use Rattle.format.specs.Header.{header, headerOf, digits, following}
-use Rattle.format.specs.Item.{Item, isName, isText}
-use Rattle.format.specs.Utf8.{utf8}
-use Rattle.format.specs.Reading.{Found, Options, State, Form, fixed, content, reference, formOf, isContent, itemOf, itemsOf, after, lenient, run}
-use Rattle.format.specs.Canonical.{full}
-use Rattle.format.proofs.Tests.{cases, equal, order, eqb-yes, eqb-no, leb-false, leb-yes, leb-no, ltb-false, ltb-yes, ltb-no, and-left, and-right, and-no-left, and-no-right, and-yes, not-false, pick-yes, pick-no, some-inj, none-some}
+use Rattle.format.specs.Header.{headerOf}
+use Rattle.format.specs.Item.{Item}
+use Rattle.format.specs.Reading.{Found, State, formOf, itemOf, itemsOf, after, lenient, run}
+use Rattle.format.proofs.Tests.{some-inj, none-some}
 use Rattle.format.proofs.Lists.{items-snoc}
 use Rattle.format.proofs.Headers.{size-within}
-use Rattle.format.proofs.Encoding.{full-other}
-use Rattle.format.proofs.Names.{item-path}
 use Rattle.format.proofs.Steps.{Passed, Reads, done, more, run-reads, reads-run, readItems, reads-found, step-drop, step-found, step-within}
-use Rattle.encoder.proofs.Lengths.{full-fixed, length-fixed}
-use Rattle.joiner.specs.Items.{numberOf, sized}
 
 -- The item at a state on the way to u, with header h.
 pub record Turn (s : List ℕ) (a u : State) (h : Header) : Type 0 where

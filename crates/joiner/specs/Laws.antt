@@ -14,25 +14,11 @@ use Rattle.format.specs.Names.{namesFrom}
 use Rattle.format.specs.Reading.{items, lenient}
 use Rattle.format.specs.Canonical.{canonical}
 use Rattle.format.specs.Writing.{fitted}
-use Rattle.format.specs.Joining.{canonicalizing, joining}
 use Rattle.format.specs.Laws.{Exceeds, Means}
-use Rattle.writer.specs.declared.writing.Written.{Written}
-use Rattle.writer.specs.Answers as writer
 use Rattle.joiner.specs.declared.merging.Joined.{Joined}
 use Rattle.joiner.specs.declared.merging.Joined.the-variants.{Done, Failed}
 use Rattle.joiner.specs.Answers.{answerOf}
-
--- ---- what the function promises
-
--- `join` of the bundles a and b, into a buffer that held `old`: it answers `r` and leaves `new`. This is what it promises.
-pub record Joins (a b old : List ℕ) (r : Joined) (new : List ℕ) : Type 0 where
-  pub answer : answerOf r ≡ counted (joining lenient a b (length old))
-  pub buffer : new ≡ stored old (joining lenient a b (length old))
-
--- `canonicalize` of a bundle, into a buffer that held `old`: it answers `r` and leaves `new`. This is what it promises.
-pub record Canonicalizes (bs old : List ℕ) (r : Written) (new : List ℕ) : Type 0 where
-  pub answer : writer.answerOf r ≡ counted (canonicalizing bs (length old))
-  pub buffer : new ≡ stored old (canonicalizing bs (length old))
+use Rattle.joiner.specs.Promises.{Joins}
 
 -- The answer is an error.
 pub data Refused : Joined → Type 0 where

@@ -4,4 +4,5 @@ pub mod Items
 pub mod Measuring
 pub mod Putting
 pub mod Merging
+pub mod Promises
 pub mod Laws

@@ -3,7 +3,7 @@ ghost use mathlib.Core.Path.{_≡_};
 ghost use Rattle.format.specs.Answer.{onSide};
 ghost use Rattle.writer.specs.Answers as writer;
 ghost use Rattle.joiner.specs.Answers.{answerOf};
-ghost use Rattle.joiner.specs.Laws.{Joins, Canonicalizes};
+ghost use Rattle.joiner.specs.Promises.{Joins, Canonicalizes};
 use crate::merging::Joined;
 use crate::merging::merge;
 use reader::Checked;

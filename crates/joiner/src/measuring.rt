@@ -66,13 +66,7 @@ fn held(t: Tally, next: usize, n: usize, p: u64) -> Tally
 }
 
 // After a name that has an index.
-fn referred(
-    plan: &mut [u16; Row::MAX_COUNT],
-    t: Tally,
-    at: usize,
-    entries: usize,
-    i: u16,
-) -> Tally
+fn referred(plan: &mut [u16; Row::MAX_COUNT], t: Tally, at: usize, entries: usize, i: u16) -> Tally
     requires { ⌜ (length (now plan) ≡ 1024) × (t .row < 1024) × (t .size + 16393 < 2 ^ 64) ⌝ }
     ensures state { λ r. ⌜ r ≡ tallied t at entries (t .names) (length (header 7 i)) ⌝ }
     ensures planned { λ _. ⌜ now (plan .exit) ≡ set (now (plan .entry)) (t .row) i ⌝ }
@@ -133,7 +127,18 @@ fn name<'a>(
     let kind = h.code + 5;
     let part = &s[next..e];
     let key = key_of(kind, part);
-    match note(first, second, entries, links, t.names, kind, key, side, next, part) {
+    match note(
+        first,
+        second,
+        entries,
+        links,
+        t.names,
+        kind,
+        key,
+        side,
+        next,
+        part,
+    ) {
         Noted::Known(i) => {
             to[old] = i as u16;
             referred(plan, t, e, old + 1, i as u16)

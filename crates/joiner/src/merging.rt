@@ -3,7 +3,7 @@ ghost use mathlib.Core.Path.{_≡_};
 ghost use Prim.Native.Nat.{min};
 ghost use lib.Dec.{ltb};
 ghost use Rattle.format.specs.Limits.{max-bytes};
-ghost use Rattle.joiner.specs.Laws.{Joins};
+ghost use Rattle.joiner.specs.Promises.{Joins};
 ghost use Rattle.joiner.specs.Merging.{Both, begun, top};
 use crate::measuring::Tally;
 use crate::measuring::measure;
@@ -65,8 +65,26 @@ pub fn merge<'a>(first: &'a [u8], second: &'a [u8], out: &mut [u8], rows: usize)
     let mut entries = [0u64; SymbolTable::MAX_ENTRIES];
     let mut links = [0u16; Links::SIZE];
     let mut plan = [0u16; Row::MAX_COUNT];
-    let t = measure(first, second, first, 0, &mut entries, &mut links, &mut plan, begin());
-    let t = measure(first, second, second, 1, &mut entries, &mut links, &mut plan, t);
+    let t = measure(
+        first,
+        second,
+        first,
+        0,
+        &mut entries,
+        &mut links,
+        &mut plan,
+        begin(),
+    );
+    let t = measure(
+        first,
+        second,
+        second,
+        1,
+        &mut entries,
+        &mut links,
+        &mut plan,
+        t,
+    );
     if SymbolTable::MAX_ENTRIES < t.names {
         return Joined::Failed(Error::TooManyEntries, 0, 0);
     }

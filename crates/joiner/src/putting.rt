@@ -75,13 +75,7 @@ fn put_item(out: &mut [u8], s: &[u8], refer: u16, next: usize, h: Header) -> Ste
 }
 
 // The item of a header, at an offset of the buffer.
-fn put_next(
-    out: &mut [u8],
-    s: &[u8],
-    plan: &[u16; Row::MAX_COUNT],
-    w: Spot,
-    h: Header,
-) -> Spot
+fn put_next(out: &mut [u8], s: &[u8], plan: &[u16; Row::MAX_COUNT], w: Spot, h: Header) -> Spot
     requires { ⌜ Here (now s) (now plan) (now out) w × (some h ≡ headerOf (drop (w .at) (now s))) ⌝ }
     ensures { λ r. ⌜ ((zs ws : List Item) (u : State) (old : List ℕ) → Planning (now (s .entry)) zs ws u (now (plan .entry)) (length old) → Putting (now (s .entry)) zs u old (now (out .entry)) w
         → Onward (now (s .entry)) zs u old (now (out .exit)) w r) ⌝ }

@@ -1,11 +1,9 @@
+-- `nachricht::done` meets its contract. Assumes nothing.
 use mathlib.Core.Path.{refl}
 use Rattle.nachricht.specs.Answers.{countAnswer}
 use Rattle.nachricht.proofs.done.Statement.{statement}
 use Rattle.nachricht.proofs.done.Tie as tie
-use Rattle.nachricht.proofs.done.Reads as reads
-use Rattle.nachricht.proofs.done.Lts as lts
 
--- src/lib.rt:72:1
 returns : tie.Need-returns
 unfolding countAnswer
 returns c = refl

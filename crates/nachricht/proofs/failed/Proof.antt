@@ -1,20 +1,15 @@
+-- `nachricht::failed` meets its contract. Assumes nothing.
 use Rattle.nachricht.specs.Answers.{failedAnswer}
 use borrow.Author.Needs.{needs}
 use Rattle.nachricht.proofs.failed.Statement.{statement}
 use Rattle.nachricht.proofs.failed.Tie as tie
-use Rattle.nachricht.proofs.failed.Reads as reads
-use Rattle.nachricht.proofs.failed.Lts as lts
-use Rattle.format.proofs.error.Error.code.Reads as code-reads
 
--- src/lib.rt:46:16
 code-requires : tie.Need-code-requires
 code-requires c κs = search needs
 
--- src/lib.rt:46:16
 cast-t5 : tie.Need-cast-t5
 cast-t5 c = search needs
 
--- src/lib.rt:42:1
 returns : tie.Need-returns
 unfolding failedAnswer
 returns c = rw (c .code .ensures)

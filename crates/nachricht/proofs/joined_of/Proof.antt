@@ -1,3 +1,4 @@
+-- `nachricht::joined_of` meets its contract: the answer of each case of `Joined`. Assumes nothing.
 use mathlib.Core.Path.{sym, ap, _∙_}
 use Rattle.joiner.specs.declared.merging.Joined.{Joined}
 use Rattle.joiner.specs.Answers.{answerOf}
@@ -5,33 +6,23 @@ use Rattle.nachricht.specs.Answers.{countAnswer}
 use borrow.Author.Needs.{needs}
 use Rattle.nachricht.proofs.joined_of.Statement.{statement}
 use Rattle.nachricht.proofs.joined_of.Tie as tie
-use Rattle.nachricht.proofs.joined_of.Reads as reads
-use Rattle.nachricht.proofs.joined_of.Lts as lts
-use Rattle.nachricht.proofs.done.Reads as done-reads
-use Rattle.nachricht.proofs.failed.Reads as failed-reads
 
--- src/lib.rt:98:24
 enum-known-r : tie.Need-enum-known-r
 enum-known-r c = search needs
 
--- src/lib.rt:98:36
 failed-requires : tie.Need-failed-requires
 failed-requires c κs = search needs
 
--- src/lib.rt:99:22
 enum-known-r-2 : tie.Need-enum-known-r-2
 enum-known-r-2 c = search needs
 
--- src/lib.rt:99:28
 done-requires : tie.Need-done-requires
 done-requires c κs = search needs
 
--- src/lib.rt:94:1
 returns : tie.Need-returns
 unfolding countAnswer
 returns c = c .failed .ensures ∙ sym (ap (λ (a : Joined). countAnswer (answerOf a)) (c .before .before .r .given .1))
 
--- src/lib.rt:94:1
 returns-2 : tie.Need-returns-2
 returns-2 c = c .done .ensures ∙ sym (ap (λ (a : Joined). countAnswer (answerOf a)) (c .before .before .r2 .given .1))
 

@@ -1,3 +1,4 @@
+-- `nachricht::written_of` meets its contract: the answer of each case of `Written`. Assumes nothing.
 use mathlib.Core.Path.{sym, ap, _∙_}
 use Rattle.format.specs.Answer.{fail}
 use Rattle.writer.specs.declared.writing.Written.{Written}
@@ -6,33 +7,23 @@ use Rattle.nachricht.specs.Answers.{countAnswer}
 use borrow.Author.Needs.{needs}
 use Rattle.nachricht.proofs.written_of.Statement.{statement}
 use Rattle.nachricht.proofs.written_of.Tie as tie
-use Rattle.nachricht.proofs.written_of.Reads as reads
-use Rattle.nachricht.proofs.written_of.Lts as lts
-use Rattle.nachricht.proofs.done.Reads as done-reads
-use Rattle.nachricht.proofs.failed.Reads as failed-reads
 
--- src/lib.rt:89:25
 enum-known-r : tie.Need-enum-known-r
 enum-known-r c = search needs
 
--- src/lib.rt:89:34
 failed-requires : tie.Need-failed-requires
 failed-requires c κs = search needs
 
--- src/lib.rt:90:23
 enum-known-r-2 : tie.Need-enum-known-r-2
 enum-known-r-2 c = search needs
 
--- src/lib.rt:90:29
 done-requires : tie.Need-done-requires
 done-requires c κs = search needs
 
--- src/lib.rt:85:1
 returns : tie.Need-returns
 unfolding countAnswer fail
 returns c = c .failed .ensures ∙ sym (ap (λ (a : Written). countAnswer (answerOf a)) (c .before .before .r .given .1))
 
--- src/lib.rt:85:1
 returns-2 : tie.Need-returns-2
 returns-2 c = c .done .ensures ∙ sym (ap (λ (a : Written). countAnswer (answerOf a)) (c .before .before .r2 .given .1))
 

@@ -1,16 +1,13 @@
+-- `joiner::item::is_fixed` meets its contract: two tests. Assumes nothing.
 use Rattle.format.specs.Choice.{_&&_}
 use Rattle.format.proofs.Tests.{eqb-yes, eqb-no}
 use Rattle.joiner.proofs.item.is_fixed.Statement.{statement}
 use Rattle.joiner.proofs.item.is_fixed.Tie as tie
-use Rattle.joiner.proofs.item.is_fixed.Reads as reads
-use Rattle.joiner.proofs.item.is_fixed.Lts as lts
 
--- src/item.rt:22:9
 returns : tie.Need-returns
 unfolding _&&_
 returns c = rw (eqb-no (c .if1 .taken))
 
--- src/item.rt:18:1
 returns-2 : tie.Need-returns-2
 unfolding _&&_
 returns-2 c = rw (eqb-yes (c .if1 .left))

@@ -1,16 +1,13 @@
+-- `joiner::item::is_number` meets its contract: a range of codes. Assumes nothing.
 use Rattle.format.specs.Choice.{_&&_}
 use Rattle.format.proofs.Tests.{leb-yes, leb-no}
 use Rattle.joiner.proofs.item.is_number.Statement.{statement}
 use Rattle.joiner.proofs.item.is_number.Tie as tie
-use Rattle.joiner.proofs.item.is_number.Reads as reads
-use Rattle.joiner.proofs.item.is_number.Lts as lts
 
--- src/item.rt:13:9
 returns : tie.Need-returns
 unfolding _&&_
 returns c = rw (leb-no (c .if1 .taken))
 
--- src/item.rt:9:1
 returns-2 : tie.Need-returns-2
 unfolding _&&_
 returns-2 c = rw (leb-yes (c .if1 .left))

@@ -1,3 +1,4 @@
+-- `joiner::item::number_of` meets its contract: the payload, but for the alias. Assumes nothing.
 use mathlib.Core.Path.{_≡_}
 use Prim.Native.Nat.{_-_, _^_, min}
 use native.Mathlib.Omega.{arith}
@@ -6,20 +7,15 @@ use Rattle.format.proofs.Tests.{equal, eqb-yes, eqb-no}
 use Rattle.joiner.specs.Items.{numberOf}
 use Rattle.joiner.proofs.item.number_of.Statement.{statement}
 use Rattle.joiner.proofs.item.number_of.Tie as tie
-use Rattle.joiner.proofs.item.number_of.Reads as reads
-use Rattle.joiner.proofs.item.number_of.Lts as lts
 
--- src/item.rt:24:13
 returns : tie.Need-returns
 unfolding numberOf pick
 returns c = rw (eqb-yes (c .if2 .taken), c .before .if1 .taken)
 
--- src/item.rt:18:1
 returns-2 : tie.Need-returns-2
 unfolding numberOf pick
 returns-2 c = rw (eqb-no (c .if2 .left))
 
--- src/item.rt:18:1
 returns-3 : tie.Need-returns-3
 unfolding numberOf pick
 returns-3 c = let p = c .before .args .p in equal (c .before .args .code) 2 (λ e. let m : min p (2 ^ 64 - 2) ≡ p = omega arith in rw (eqb-yes e, m)) (λ n. rw (eqb-no n))

@@ -1,22 +1,17 @@
+-- `joiner::item::shortest_len` meets its contract: one byte, or measured. Assumes nothing.
 use native.Mathlib.Omega.{arith}
 use Rattle.encoder.proofs.Lengths.{header-most}
 use Rattle.joiner.proofs.Arms.{one-byte}
 use borrow.Author.Needs.{needs}
 use Rattle.joiner.proofs.item.shortest_len.Statement.{statement}
 use Rattle.joiner.proofs.item.shortest_len.Tie as tie
-use Rattle.joiner.proofs.item.shortest_len.Reads as reads
-use Rattle.joiner.proofs.item.shortest_len.Lts as lts
-use Rattle.wire.proofs.header.header_len.Reads as header-len-reads
 
--- src/item.rt:54:9
 returns : tie.Need-returns
 returns c = (one-byte (c .before .pre .0) (c .before .args .h) (c .before .pre .1) (c .if1 .taken), omega arith)
 
--- src/item.rt:56:5
 header-len-requires : tie.Need-header-len-requires
 header-len-requires c κs = search needs
 
--- src/item.rt:48:1
 returns-2 : tie.Need-returns-2
 returns-2 c = (c .header-len .ensures, rw (c .header-len .ensures) (header-most (c .before .before .args .h .code) (c .before .before .args .h .payload) (omega arith)))
 

@@ -1,54 +1,39 @@
+-- `joiner::joining::canonicalize` meets its contract: merging with the empty bundle. Assumes nothing.
 use Rattle.joiner.proofs.JoinLaws.{reads, with-empty, unread-alone, canonicalized}
 use borrow.Author.Needs.{needs}
 use Rattle.joiner.proofs.joining.canonicalize.Statement.{statement}
 use Rattle.joiner.proofs.joining.canonicalize.Tie as tie
-use Rattle.joiner.proofs.joining.canonicalize.Reads as reads
-use Rattle.joiner.proofs.joining.canonicalize.Lts as lts
-use Rattle.joiner.proofs.joining.written.Reads as written-reads
-use Rattle.joiner.proofs.merging.merge.Reads as merge-reads
-use Rattle.reader.proofs.check.Reads as check-reads
 
--- src/joining.rt:40:11
 check-requires : tie.Need-check-requires
 check-requires c κs = search needs
 
--- src/joining.rt:41:25
 enum-known-e : tie.Need-enum-known-e
 enum-known-e c = search needs
 
--- src/joining.rt:42:23
 enum-known-b : tie.Need-enum-known-b
 enum-known-b c = search needs
 
--- src/joining.rt:42:50
 sub-merge : tie.Need-sub-merge
 sub-merge c = search needs
 
--- src/joining.rt:42:50
 part-merge-start : tie.Need-part-merge-start
 part-merge-start c = search needs
 
--- src/joining.rt:42:50
 part-merge-end : tie.Need-part-merge-end
 part-merge-end c = search needs
 
--- src/joining.rt:42:37
 merge-requires : tie.Need-merge-requires
 merge-requires c κs = with-empty (reads _ (rw (c .before .before .before .b .given .1) at (c .before .before .before .before .before .check .ensures)))
 
--- src/joining.rt:42:29
 written-requires : tie.Need-written-requires
 written-requires c κs = search needs
 
--- src/joining.rt:37:1
 returns : tie.Need-returns
 returns c = unread-alone _ _ _ _ (rw (c .before .e .given .1) at (c .before .before .before .check .ensures))
 
--- src/joining.rt:37:1
 same-length : tie.Need-same-length
 same-length c = search needs
 
--- src/joining.rt:37:1
 returns-2 : tie.Need-returns-2
 returns-2 c = canonicalized (reads _ (rw (c .before .before .before .before .before .before .before .b .given .1) at (c .before .before .before .before .before .before .before .before .before .check .ensures))) (c .before .before .before .merge .ensures) (c .written .ensures)
 

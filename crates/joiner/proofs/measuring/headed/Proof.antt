@@ -1,80 +1,56 @@
-use mathlib.Core.Path.{_≡_, refl, sym, ap, _∙_}
+-- `joiner::measuring::headed` meets its contract, code by code. Assumes nothing.
+use mathlib.Core.Path.{refl, sym, ap, _∙_}
 use Prim.Native.Nat.{ℕ, _+_}
 use lib.ListN.{length}
 use native.Mathlib.Omega.{arith}
-use Rattle.joiner.specs.Measuring.{tallied}
 use Rattle.joiner.proofs.Arms.{number-code, fixed-code, form-held, number-plain, number-full, number-length, fixed-plain, fixed-length, content-plain, content-length}
 use Rattle.joiner.proofs.MeasureSteps.{turned, room, small, inside, plain-on, reference-on, reference-small, held-small}
 use borrow.Author.Needs.{needs}
 use Rattle.joiner.proofs.measuring.headed.Statement.{statement}
 use Rattle.joiner.proofs.measuring.headed.Tie as tie
-use Rattle.joiner.proofs.measuring.headed.Reads as reads
-use Rattle.joiner.proofs.measuring.headed.Lts as lts
-use Rattle.joiner.proofs.item.is_fixed.Reads as is-fixed-reads
-use Rattle.joiner.proofs.item.is_number.Reads as is-number-reads
-use Rattle.joiner.proofs.item.shortest_len.Reads as shortest-len-reads
-use Rattle.joiner.proofs.measuring.after.Reads as after-reads
-use Rattle.joiner.proofs.measuring.held.Reads as held-reads
-use Rattle.joiner.proofs.measuring.name.Reads as name-reads
-use Rattle.joiner.proofs.measuring.reference.Reads as reference-reads
 
--- src/measuring.rt:173:16
 add-next : tie.Need-add-next
 add-next c = let k = c .before .before .before .before .before .pre .0 in omega (arith, inside (k .bundled) (k .partway) (c .before .before .before .before .before .pre .1), k .bundled .short)
 
--- src/measuring.rt:176:8
 is-number-requires : tie.Need-is-number-requires
 is-number-requires c κs = search needs
 
--- src/measuring.rt:177:51
 shortest-len-requires : tie.Need-shortest-len-requires
 shortest-len-requires c κs = (_, c .before .before .before .before .before .before .before .pre .1)
 
--- src/measuring.rt:177:9
 after-requires : tie.Need-after-requires
 after-requires c κs = let k = c .before .before .before .before .before .before .before .before .pre .0 in (room (k .bundled) (k .partway) (c .before .before .before .before .before .before .before .before .pre .1), omega (arith, c .shortest-len .ensures .1, small (k .bundled) (k .partway) (c .before .before .before .before .before .before .before .before .pre .1)))
 
--- src/measuring.rt:177:9
 returns : tie.Need-returns
 returns c = λ zs u w p. let n = number-code _ (sym (c .before .before .before .is-number .ensures) ∙ c .before .before .if1 .taken) in let v = turned w p (c .before .before .before .before .before .before .before .before .before .pre .1) in plain-on w p (c .before .before .before .before .before .before .before .before .before .pre .1) _ 0 _ (omega arith) (number-plain v (n .0) (n .1)) (c .before .shortest-len .ensures .0 ∙ number-length (c .before .before .before .before .before .before .before .before .before .args .h .code) (c .before .before .before .before .before .before .before .before .before .args .h .payload) (omega arith) ∙ ap length (sym (number-full v (n .0) (n .1)))) (omega (arith, c .before .shortest-len .ensures .1)) (c .after .ensures)
 
--- src/measuring.rt:180:9
 reference-requires : tie.Need-reference-requires
 reference-requires c κs = let k = c .before .before .before .before .before .before .before .before .before .before .pre .0 in (k .partway .width, reference-small (k .bundled) (k .partway) (c .before .before .before .before .before .before .before .before .before .before .pre .1) (c .before .before .if2 .taken), k .partway .measured .plan-size, room (k .bundled) (k .partway) (c .before .before .before .before .before .before .before .before .before .before .pre .1), small (k .bundled) (k .partway) (c .before .before .before .before .before .before .before .before .before .before .pre .1))
 
--- src/measuring.rt:180:9
 returns-2 : tie.Need-returns-2
 returns-2 c = λ zs u w p. rw (c .reference .ensures .1) (reference-on w p (c .before .before .before .before .before .before .before .before .before .before .before .pre .1) (c .before .before .before .if2 .taken) (c .reference .ensures .0))
 
--- src/measuring.rt:183:9
 name-requires : tie.Need-name-requires
 name-requires c κs = search needs
 
--- src/measuring.rt:183:9
 returns-3 : tie.Need-returns-3
 returns-3 c = search needs
 
--- src/measuring.rt:185:8
 is-fixed-requires : tie.Need-is-fixed-requires
 is-fixed-requires c κs = search needs
 
--- src/measuring.rt:186:9
 after-requires-2 : tie.Need-after-requires-2
 after-requires-2 c κs = let k = c .before .before .before .before .before .before .before .before .before .before .before .pre .0 in (room (k .bundled) (k .partway) (c .before .before .before .before .before .before .before .before .before .before .before .pre .1), omega (arith, inside (k .bundled) (k .partway) (c .before .before .before .before .before .before .before .before .before .before .before .pre .1), k .bundled .short, small (k .bundled) (k .partway) (c .before .before .before .before .before .before .before .before .before .before .before .pre .1)))
 
--- src/measuring.rt:186:9
 returns-4 : tie.Need-returns-4
 returns-4 c = λ zs u w p. let z = fixed-code (c .before .before .before .before .before .before .before .before .before .before .before .before .args .h .code) (c .before .before .before .before .before .before .before .before .before .before .before .before .args .h .sz) (sym (c .before .before .is-fixed .ensures) ∙ c .before .if4 .taken) in let v = turned w p (c .before .before .before .before .before .before .before .before .before .before .before .before .pre .1) in plain-on w p (c .before .before .before .before .before .before .before .before .before .before .before .before .pre .1) _ 0 _ (omega arith) (fixed-plain v (z .0) (z .1)) (fixed-length v (z .0) (z .1) (rw (p .offset) (c .before .before .before .before .before .before .before .before .before .before .before .before .pre .1))) (omega (arith, inside w p (c .before .before .before .before .before .before .before .before .before .before .before .before .pre .1), w .short)) (c .after2 .ensures)
 
--- src/measuring.rt:188:19
 shortest-len-requires-2 : tie.Need-shortest-len-requires-2
 shortest-len-requires-2 c κs = (_, c .before .before .before .before .before .before .before .before .before .before .before .pre .1)
 
--- src/measuring.rt:188:5
 held-requires : tie.Need-held-requires
 held-requires c κs = let k = c .before .before .before .before .before .before .before .before .before .before .before .before .pre .0 in let f = form-held (c .before .before .before .before .before .before .before .before .before .before .before .before .args .h) (sym (c .before .before .before .before .before .before .is-number .ensures) ∙ c .before .before .before .before .before .if1 .left) (sym (c .before .before .is-fixed .ensures) ∙ c .before .if4 .left) (c .before .before .before .before .if2 .left) in (room (k .bundled) (k .partway) (c .before .before .before .before .before .before .before .before .before .before .before .before .pre .1), small (k .bundled) (k .partway) (c .before .before .before .before .before .before .before .before .before .before .before .before .pre .1), omega (arith, inside (k .bundled) (k .partway) (c .before .before .before .before .before .before .before .before .before .before .before .before .pre .1), k .bundled .short), c .shortest-len2 .ensures .1, held-small (k .bundled) (k .partway) (c .before .before .before .before .before .before .before .before .before .before .before .before .pre .1) f)
 
--- src/measuring.rt:156:1
 returns-5 : tie.Need-returns-5
 returns-5 c = λ zs u w p. let f = form-held (c .before .before .before .before .before .before .before .before .before .before .before .before .before .args .h) (sym (c .before .before .before .before .before .before .before .is-number .ensures) ∙ c .before .before .before .before .before .before .if1 .left) (sym (c .before .before .before .is-fixed .ensures) ∙ c .before .before .if4 .left) (c .before .before .before .before .before .if2 .left) in let v = turned w p (c .before .before .before .before .before .before .before .before .before .before .before .before .before .pre .1) in plain-on w p (c .before .before .before .before .before .before .before .before .before .before .before .before .before .pre .1) _ _ _ refl (content-plain v f (c .before .before .before .before .if3 .left)) (ap (λ (k : ℕ). k + c .before .before .before .before .before .before .before .before .before .before .before .before .before .args .h .payload) (c .before .shortest-len2 .ensures .0) ∙ content-length v f) (omega (arith, held-small w p (c .before .before .before .before .before .before .before .before .before .before .before .before .before .pre .1) f, c .before .shortest-len2 .ensures .1)) (c .held .ensures)
 

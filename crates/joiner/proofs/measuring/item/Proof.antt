@@ -1,34 +1,24 @@
-use mathlib.Core.Path.{_≡_, refl, sym, ap, _∙_}
+-- `joiner::measuring::item` meets its contract: in a bundle that reads no header is cut. Assumes nothing.
 use Rattle.joiner.proofs.Turns.{never-cut}
 use borrow.Author.Needs.{needs}
 use Rattle.joiner.proofs.measuring.item.Statement.{statement}
 use Rattle.joiner.proofs.measuring.item.Tie as tie
-use Rattle.joiner.proofs.measuring.item.Reads as reads
-use Rattle.joiner.proofs.measuring.item.Lts as lts
-use Rattle.joiner.proofs.measuring.headed.Reads as headed-reads
-use Rattle.wire.proofs.header.header_at.Reads as header-at-reads
 
--- src/measuring.rt:213:11
 header-at-requires : tie.Need-header-at-requires
 header-at-requires c κs = search needs
 
--- src/measuring.rt:215:22
 enum-told : tie.Need-enum-told
 enum-told c = search needs
 
--- src/measuring.rt:216:21
 enum-known-h : tie.Need-enum-known-h
 enum-known-h c = search needs
 
--- src/measuring.rt:216:27
 headed-requires : tie.Need-headed-requires
 headed-requires c κs = (c .before .before .before .before .before .before .before .before .before .before .before .pre .0, rw (c .before .before .before .before .before .h .given .1) at (c .before .before .before .before .before .before .before .header-at .ensures))
 
--- src/measuring.rt:197:1
 returns : tie.Need-returns
 returns c = λ zs u w p. never-cut _ (p .state) (p .reads) (rw (p .offset) (c .before .before .before .before .before .before .pre .1)) (rw (p .offset) (rw (c .enum-told .given .1) at (c .before .before .header-at .ensures)))
 
--- src/measuring.rt:197:1
 returns-2 : tie.Need-returns-2
 returns-2 c = search needs
 

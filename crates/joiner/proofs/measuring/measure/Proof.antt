@@ -1,3 +1,4 @@
+-- `joiner::measuring::measure` meets its contract: the loop keeps `Stage`, and each item takes bytes. Assumes nothing.
 use mathlib.Core.Path.{refl}
 use mathlib.Core.List.{List}
 use Prim.Native.Nat.{_-_}
@@ -8,9 +9,6 @@ use Rattle.joiner.specs.Measuring.{Begun, Stage}
 use Rattle.joiner.proofs.MeasureLoop.{begun-as, stage-start, stage-here, stage-next, stage-end}
 use Rattle.joiner.proofs.measuring.measure.Statement.{statement}
 use Rattle.joiner.proofs.measuring.measure.Tie as tie
-use Rattle.joiner.proofs.measuring.measure.Reads as reads
-use Rattle.joiner.proofs.measuring.measure.Lts as lts
-use Rattle.joiner.proofs.measuring.item.Reads as item-reads
 
 abbrev Inv-loop : tie.InvT-loop
 Inv-loop first second s side entries₀ links₀ plan₀ to₀ t₀ entries links plan to t = (zs : List Item) (u : State) → Begun first second s side zs u entries₀ links₀ plan₀ t₀ → Stage first second s zs u entries links to plan t
@@ -18,23 +16,18 @@ Inv-loop first second s side entries₀ links₀ plan₀ to₀ t₀ entries link
 abbrev μ-loop : tie.MeasureT-loop
 μ-loop first second s side entries₀ links₀ plan₀ to₀ t₀ entries links plan to t = length s - t .at
 
--- src/measuring.rt:243:5
 loop-holds : tie.Need-loop-holds Inv-loop μ-loop
 loop-holds c = λ zs u g. stage-start _ g refl refl refl
 
--- src/measuring.rt:244:9
 item-requires : tie.Need-item-requires Inv-loop μ-loop
 item-requires c κs = let g = begun-as (c .before .before .before .before .before .before .before .before .before .before .pre .begun) refl refl refl in (stage-here (g .bundled) (c .before .before .before .before .before .before .loop .inv (c .before .before .before .before .before .before .before .before .before .before .pre .zs) (c .before .before .before .before .before .before .before .before .before .before .pre .u) g) (c .before .before .before .before .if1 .taken), c .before .before .before .before .if1 .taken)
 
--- src/measuring.rt:243:5
 loop-less : tie.Need-loop-less Inv-loop μ-loop
 loop-less c = let g = begun-as (c .before .before .before .before .before .before .before .before .before .before .before .pre .begun) refl refl refl in stage-next (g .bundled) (c .before .before .before .before .before .before .before .loop .inv (c .before .before .before .before .before .before .before .before .before .before .before .pre .zs) (c .before .before .before .before .before .before .before .before .before .before .before .pre .u) g) (c .before .before .before .before .before .if1 .taken) (c .item .ensures) .1
 
--- src/measuring.rt:243:5
 loop-again : tie.Need-loop-again Inv-loop μ-loop
 loop-again c = λ zs u g. stage-next (g .bundled) (c .before .before .before .before .before .before .before .loop .inv zs u g) (c .before .before .before .before .before .if1 .taken) (c .item .ensures) .0
 
--- src/measuring.rt:221:1
 returns : tie.Need-returns Inv-loop μ-loop
 returns c = λ zs u g. stage-end (g .bundled) (c .before .before .loop .inv zs u (begun-as g refl refl refl)) (c .if1 .left)
 

@@ -1,5 +1,6 @@
+-- `joiner::measuring::name` meets its contract: the name is known, new, or one too many. Assumes nothing.
 use mathlib.Core.Path.{_≡_, refl, ap, _∙_}
-use Prim.Native.Nat.{ℕ, _+_, _-_}
+use Prim.Native.Nat.{_+_, _-_}
 use native.Mathlib.Omega.{arith}
 use Rattle.joiner.specs.Measuring.{tallied}
 use Rattle.joiner.proofs.Arms.{form-coded}
@@ -7,119 +8,85 @@ use Rattle.joiner.proofs.MeasureSteps.{room, small, inside, content-wit
 use borrow.Author.Needs.{needs}
 use Rattle.joiner.proofs.measuring.name.Statement.{statement}
 use Rattle.joiner.proofs.measuring.name.Tie as tie
-use Rattle.joiner.proofs.measuring.name.Reads as reads
-use Rattle.joiner.proofs.measuring.name.Lts as lts
-use Rattle.joiner.proofs.item.shortest_len.Reads as shortest-len-reads
-use Rattle.joiner.proofs.measuring.fresh.Reads as fresh-reads
-use Rattle.joiner.proofs.measuring.referred.Reads as referred-reads
-use Rattle.symbols.proofs.entry.key_of.Reads as key-of-reads
-use Rattle.symbols.proofs.lookup.note.Reads as note-reads
 
--- src/measuring.rt:130:16
 add-next : tie.Need-add-next
 add-next c = let k = c .before .before .before .before .before .pre .0 in omega (arith, inside (k .bundled) (k .partway) (c .before .before .before .before .before .pre .1), k .bundled .short)
 
--- src/measuring.rt:131:13
 add-e : tie.Need-add-e
 add-e c = let k = c .before .before .before .before .before .pre .0 in let h = c .before .before .before .before .before .args .h in let f = form-coded h (omega (arith, c .before .before .before .before .before .pre .2)) (c .before .before .before .before .before .pre .3) in omega (arith, content-within (k .bundled) (k .partway) (c .before .before .before .before .before .pre .1) f, k .bundled .short)
 
--- src/measuring.rt:133:16
 add-kind : tie.Need-add-kind
 add-kind c = search needs
 
--- src/measuring.rt:134:16
 sub-part : tie.Need-sub-part
 sub-part c = search needs
 
--- src/measuring.rt:134:16
 part-part-start : tie.Need-part-part-start
 part-part-start c = search needs
 
--- src/measuring.rt:134:16
 part-part-end : tie.Need-part-part-end
 part-part-end c = let k = c .before .before .before .before .before .before .pre .0 in let h = c .before .before .before .before .before .before .args .h in let f = form-coded h (omega (arith, c .before .before .before .before .before .before .pre .2)) (c .before .before .before .before .before .before .pre .3) in omega (arith, content-within (k .bundled) (k .partway) (c .before .before .before .before .before .before .pre .1) f)
 
--- src/measuring.rt:135:9
 key-of-requires : tie.Need-key-of-requires
 key-of-requires c κs = let k = c .before .before .before .before .before .before .before .pre .0 in let h = c .before .before .before .before .before .before .before .args .h in let f = form-coded h (omega (arith, c .before .before .before .before .before .before .before .pre .2)) (c .before .before .before .before .before .before .before .pre .3) in let n = c .before .before .before .before .before .before .before .args .t .at + h .size in let d : n + h .payload - n ≡ h .payload = omega arith in let q = name-stands (k .bundled) (k .partway) (c .before .before .before .before .before .before .before .pre .1) f (c .before .before .before .before .before .before .before .pre .2) (c .before .before .before .before .before .before .before .pre .3) in (q .low, q .high, rw d (q .short))
 
--- src/measuring.rt:136:11
 note-requires : tie.Need-note-requires
 note-requires c κs = let k = c .before .before .before .before .before .before .before .before .before .before .pre .0 in let h = c .before .before .before .before .before .before .before .before .before .before .args .h in let f = form-coded h (omega (arith, c .before .before .before .before .before .before .before .before .before .before .pre .2)) (c .before .before .before .before .before .before .before .before .before .before .pre .3) in let n = c .before .before .before .before .before .before .before .before .before .before .args .t .at + h .size in let d : n + h .payload - n ≡ h .payload = omega arith in (k .partway .measured .table, rw d (name-stands (k .bundled) (k .partway) (c .before .before .before .before .before .before .before .before .before .before .pre .1) f (c .before .before .before .before .before .before .before .before .before .before .pre .2) (c .before .before .before .before .before .before .before .before .before .before .pre .3)), c .before .before .key-of .ensures .0)
 
--- src/measuring.rt:137:22
 enum-known-i : tie.Need-enum-known-i
 enum-known-i c = search needs
 
--- src/measuring.rt:138:23
 cast-to : tie.Need-cast-to
 cast-to c = let g = rw (c .before .i .given .1) at (c .before .before .before .note .ensures) in omega (arith, g .1)
 
--- src/measuring.rt:138:13
 mul-to : tie.Need-mul-to
 mul-to c = search needs
 
--- src/measuring.rt:138:13
 element-write-to : tie.Need-element-write-to
 element-write-to c = let k = c .before .before .before .before .before .before .before .before .before .before .before .before .before .before .pre .0 in let h = c .before .before .before .before .before .before .before .before .before .before .before .before .before .before .args .h in let f = form-coded h (omega (arith, c .before .before .before .before .before .before .before .before .before .before .before .before .before .before .pre .2)) (c .before .before .before .before .before .before .before .before .before .before .before .before .before .before .pre .3) in omega (arith, name-old (k .bundled) (k .partway) (c .before .before .before .before .before .before .before .before .before .before .before .before .before .before .pre .1) f (c .before .before .before .before .before .before .before .before .before .before .before .before .before .before .pre .2), k .partway .width)
 
--- src/measuring.rt:139:34
 add-referred : tie.Need-add-referred
 add-referred c = let k = c .before .before .before .before .before .before .before .before .before .before .before .before .before .before .before .pre .0 in let h = c .before .before .before .before .before .before .before .before .before .before .before .before .before .before .before .args .h in let f = form-coded h (omega (arith, c .before .before .before .before .before .before .before .before .before .before .before .before .before .before .before .pre .2)) (c .before .before .before .before .before .before .before .before .before .before .before .before .before .before .before .pre .3) in omega (arith, name-old (k .bundled) (k .partway) (c .before .before .before .before .before .before .before .before .before .before .before .before .before .before .before .pre .1) f (c .before .before .before .before .before .before .before .before .before .before .before .before .before .before .before .pre .2))
 
--- src/measuring.rt:139:43
 cast-referred : tie.Need-cast-referred
 cast-referred c = let g = rw (c .before .before .i .given .1) at (c .before .before .before .before .note .ensures) in omega (arith, g .1)
 
--- src/measuring.rt:139:13
 referred-requires : tie.Need-referred-requires
 referred-requires c κs = let k = c .before .before .before .before .before .before .before .before .before .before .before .before .before .before .before .pre .0 in (k .partway .measured .plan-size, room (k .bundled) (k .partway) (c .before .before .before .before .before .before .before .before .before .before .before .before .before .before .before .pre .1), small (k .bundled) (k .partway) (c .before .before .before .before .before .before .before .before .before .before .before .before .before .before .before .pre .1))
 
--- src/measuring.rt:142:23
 enum-told : tie.Need-enum-told
 enum-told c = search needs
 
--- src/measuring.rt:142:23
 cast-to-2 : tie.Need-cast-to-2
 cast-to-2 c = let g = rw (c .before .enum-told .given .1) at (c .before .before .before .note .ensures) in omega (arith, g .room)
 
--- src/measuring.rt:142:13
 mul-to-2 : tie.Need-mul-to-2
 mul-to-2 c = let k = c .before .before .before .before .before .before .before .before .before .before .before .before .before .before .pre .0 in let h = c .before .before .before .before .before .before .before .before .before .before .before .before .before .before .args .h in let f = form-coded h (omega (arith, c .before .before .before .before .before .before .before .before .before .before .before .before .before .before .pre .2)) (c .before .before .before .before .before .before .before .before .before .before .before .before .before .before .pre .3) in omega (arith, name-old (k .bundled) (k .partway) (c .before .before .before .before .before .before .before .before .before .before .before .before .before .before .pre .1) f (c .before .before .before .before .before .before .before .before .before .before .before .before .before .before .pre .2))
 
--- src/measuring.rt:142:13
 element-write-to-2 : tie.Need-element-write-to-2
 element-write-to-2 c = let k = c .before .before .before .before .before .before .before .before .before .before .before .before .before .before .pre .0 in let h = c .before .before .before .before .before .before .before .before .before .before .before .before .before .before .args .h in let f = form-coded h (omega (arith, c .before .before .before .before .before .before .before .before .before .before .before .before .before .before .pre .2)) (c .before .before .before .before .before .before .before .before .before .before .before .before .before .before .pre .3) in omega (arith, name-old (k .bundled) (k .partway) (c .before .before .before .before .before .before .before .before .before .before .before .before .before .before .pre .1) f (c .before .before .before .before .before .before .before .before .before .before .before .before .before .before .pre .2), k .partway .width)
 
--- src/measuring.rt:143:31
 shortest-len-requires : tie.Need-shortest-len-requires
 shortest-len-requires c κs = (_, c .before .before .before .before .before .before .before .before .before .before .before .before .before .before .before .pre .1)
 
--- src/measuring.rt:143:50
 sub-fresh : tie.Need-sub-fresh
 sub-fresh c = search needs
 
--- src/measuring.rt:143:31
 add-fresh : tie.Need-add-fresh
 add-fresh c = let k = c .before .before .before .before .before .before .before .before .before .before .before .before .before .before .before .before .pre .0 in let h = c .before .before .before .before .before .before .before .before .before .before .before .before .before .before .before .before .args .h in let f = form-coded h (omega (arith, c .before .before .before .before .before .before .before .before .before .before .before .before .before .before .before .before .pre .2)) (c .before .before .before .before .before .before .before .before .before .before .before .before .before .before .before .before .pre .3) in omega (arith, content-within (k .bundled) (k .partway) (c .before .before .before .before .before .before .before .before .before .before .before .before .before .before .before .before .pre .1) f, k .bundled .short, c .shortest-len .ensures .1)
 
--- src/measuring.rt:143:13
 fresh-requires : tie.Need-fresh-requires
 fresh-requires c κs = let k = c .before .before .before .before .before .before .before .before .before .before .before .before .before .before .before .before .pre .0 in let h = c .before .before .before .before .before .before .before .before .before .before .before .before .before .before .before .before .args .h in let f = form-coded h (omega (arith, c .before .before .before .before .before .before .before .before .before .before .before .before .before .before .before .before .pre .2)) (c .before .before .before .before .before .before .before .before .before .before .before .before .before .before .before .before .pre .3) in let g = rw (c .before .before .before .enum-told .given .1) at (c .before .before .before .before .before .note .ensures) in (k .partway .measured .plan-size, room (k .bundled) (k .partway) (c .before .before .before .before .before .before .before .before .before .before .before .before .before .before .before .before .pre .1), small (k .bundled) (k .partway) (c .before .before .before .before .before .before .before .before .before .before .before .before .before .before .before .before .pre .1), omega (arith, content-within (k .bundled) (k .partway) (c .before .before .before .before .before .before .before .before .before .before .before .before .before .before .before .before .pre .1) f, k .bundled .short, c .shortest-len .ensures .1), name-old (k .bundled) (k .partway) (c .before .before .before .before .before .before .before .before .before .before .before .before .before .before .before .before .pre .1) f (c .before .before .before .before .before .before .before .before .before .before .before .before .before .before .before .before .pre .2), g .room)
 
--- src/measuring.rt:146:17
 enum-told-2 : tie.Need-enum-told-2
 enum-told-2 c = search needs
 
--- src/measuring.rt:113:1
 returns : tie.Need-returns
 returns c = λ zs u w p. let k = c .before .before .before .before .before .before .before .before .before .before .before .before .before .before .before .before .pre .0 in let h = c .before .before .before .before .before .before .before .before .before .before .before .before .before .before .before .before .args .h in let f = form-coded h (omega (arith, c .before .before .before .before .before .before .before .before .before .before .before .before .before .before .before .before .pre .2)) (c .before .before .before .before .before .before .before .before .before .before .before .before .before .before .before .before .pre .3) in let n = c .before .before .before .before .before .before .before .before .before .before .before .before .before .before .before .before .args .t .at + h .size in let d : n + h .payload - n ≡ h .payload = omega arith in let g = rw (c .before .before .before .i .given .1, d) at (c .before .before .before .before .before .note .ensures) in rw (g .2, g .3, c .referred .ensures .1) (known-on w p (c .before .before .before .before .before .before .before .before .before .before .before .before .before .before .before .before .pre .1) f (c .before .before .before .before .before .before .before .before .before .before .before .before .before .before .before .before .pre .2) (c .before .before .before .i .given .0 .0) (g .0) (g .1) (c .referred .ensures .0))
 
--- src/measuring.rt:113:1
 returns-2 : tie.Need-returns-2
 returns-2 c = λ zs u w p. let k = c .before .before .before .before .before .before .before .before .before .before .before .before .before .before .before .before .before .pre .0 in let h = c .before .before .before .before .before .before .before .before .before .before .before .before .before .before .before .before .before .args .h in let f = form-coded h (omega (arith, c .before .before .before .before .before .before .before .before .before .before .before .before .before .before .before .before .before .pre .2)) (c .before .before .before .before .before .before .before .before .before .before .before .before .before .before .before .before .before .pre .3) in let n = c .before .before .before .before .before .before .before .before .before .before .before .before .before .before .before .before .before .args .t .at + h .size in let d : n + h .payload - n ≡ h .payload = omega arith in let g = rw (c .before .before .before .before .enum-told .given .1, d) at (c .before .before .before .before .before .before .note .ensures) in rw (c .fresh .ensures .1) (fresh-on w p (c .before .before .before .before .before .before .before .before .before .before .before .before .before .before .before .before .before .pre .1) f (c .before .before .before .before .before .before .before .before .before .before .before .before .before .before .before .before .before .pre .2) g (c .fresh .ensures .0 ∙ ap (tallied (c .before .before .before .before .before .before .before .before .before .before .before .before .before .before .before .before .before .args .t) (n + h .payload) (c .before .before .before .before .before .before .before .before .before .before .before .before .before .before .before .before .before .args .t .entries + 1) (c .before .before .before .before .before .before .before .before .before .before .before .before .before .before .before .before .before .args .t .names + 1)) (omega (arith, d, c .before .shortest-len .ensures .0))))
 
--- src/measuring.rt:113:1
 returns-3 : tie.Need-returns-3
 returns-3 c = λ zs u w p. let k = c .before .before .before .before .before .before .before .before .before .before .before .before .before .pre .0 in let h = c .before .before .before .before .before .before .before .before .before .before .before .before .before .args .h in let f = form-coded h (omega (arith, c .before .before .before .before .before .before .before .before .before .before .before .before .before .pre .2)) (c .before .before .before .before .before .before .before .before .before .before .before .before .before .pre .3) in let n = c .before .before .before .before .before .before .before .before .before .before .before .before .before .args .t .at + h .size in let d : n + h .payload - n ≡ h .payload = omega arith in let g = rw (c .enum-told2 .given .1, d) at (c .before .before .note .ensures) in full-over w p (c .before .before .before .before .before .before .before .before .before .before .before .before .before .pre .1) f (c .before .before .before .before .before .before .before .before .before .before .before .before .before .pre .2) (g .0) (g .1) refl refl
 

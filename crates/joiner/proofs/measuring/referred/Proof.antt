@@ -1,3 +1,4 @@
+-- `joiner::measuring::referred` meets its contract. Assumes nothing.
 use mathlib.Core.Path.{refl, ap, _∙_}
 use native.Mathlib.Omega.{arith}
 use Rattle.encoder.proofs.Lengths.{header-most}
@@ -5,28 +6,19 @@ use Rattle.joiner.specs.Measuring.{tallied}
 use borrow.Author.Needs.{needs}
 use Rattle.joiner.proofs.measuring.referred.Statement.{statement}
 use Rattle.joiner.proofs.measuring.referred.Tie as tie
-use Rattle.joiner.proofs.measuring.referred.Reads as reads
-use Rattle.joiner.proofs.measuring.referred.Lts as lts
-use Rattle.joiner.proofs.measuring.after.Reads as after-reads
-use Rattle.wire.proofs.header.header_len.Reads as header-len-reads
 
--- src/measuring.rt:79:5
 mul-plan : tie.Need-mul-plan
 mul-plan c = search needs
 
--- src/measuring.rt:79:5
 element-write-plan : tie.Need-element-write-plan
 element-write-plan c = search needs
 
--- src/measuring.rt:80:36
 header-len-requires : tie.Need-header-len-requires
 header-len-requires c κs = search needs
 
--- src/measuring.rt:80:5
 after-requires : tie.Need-after-requires
 after-requires c κs = (c .before .pre .1, omega (arith, c .before .pre, c .header-len .ensures, header-most 7 (c .before .args .i) (omega arith)))
 
--- src/measuring.rt:67:1
 returns : tie.Need-returns
 returns c = (c .after .ensures ∙ ap (tallied (c .before .before .args .t) (c .before .before .args .at) (c .before .before .args .entries) (c .before .before .args .t .names)) (c .before .header-len .ensures), refl)
 

@@ -1,19 +1,16 @@
-use mathlib.Core.Path.{_≡_, sym}
-use Prim.Native.Nat.{_≤_, min}
+-- `joiner::merging::is_over` meets its contract: one test for the lesser of two limits. Assumes nothing.
+use mathlib.Core.Path.{sym}
+use Prim.Native.Nat.{min}
 use native.Mathlib.Omega.{arith}
 use Rattle.format.proofs.Tests.{order, ltb-yes, ltb-no}
 use Rattle.format.specs.Limits.{max-bytes}
 use mathlib.Core.Path.{_∙_}
 use Rattle.joiner.proofs.merging.is_over.Statement.{statement}
 use Rattle.joiner.proofs.merging.is_over.Tie as tie
-use Rattle.joiner.proofs.merging.is_over.Reads as reads
-use Rattle.joiner.proofs.merging.is_over.Lts as lts
 
--- src/merging.rt:51:9
 returns : tie.Need-returns
 returns c = sym (ltb-yes {a = min max-bytes (c .before .args .capacity)} {b = c .before .args .size} (omega arith))
 
--- src/merging.rt:47:1
 returns-2 : tie.Need-returns-2
 returns-2 c = order (c .before .args .size) (c .before .args .capacity) (λ l. ltb-no l ∙ sym (ltb-no {a = min max-bytes (c .before .args .capacity)} {b = c .before .args .size} (omega arith))) (λ l. ltb-yes l ∙ sym (ltb-yes {a = min max-bytes (c .before .args .capacity)} {b = c .before .args .size} (omega arith)))
 

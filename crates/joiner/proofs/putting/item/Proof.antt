@@ -1,37 +1,27 @@
+-- `joiner::putting::item` meets its contract: in a bundle that reads no header is cut. Assumes nothing.
 use Rattle.joiner.proofs.Turns.{never-cut}
 use borrow.Author.Needs.{needs}
 use Rattle.joiner.proofs.putting.item.Statement.{statement}
 use Rattle.joiner.proofs.putting.item.Tie as tie
-use Rattle.joiner.proofs.putting.item.Reads as reads
-use Rattle.joiner.proofs.putting.item.Lts as lts
-use Rattle.joiner.proofs.putting.put_next.Reads as put-next-reads
-use Rattle.wire.proofs.header.header_at.Reads as header-at-reads
 
--- src/putting.rt:105:11
 header-at-requires : tie.Need-header-at-requires
 header-at-requires c κs = search needs
 
--- src/putting.rt:107:22
 enum-told : tie.Need-enum-told
 enum-told c = search needs
 
--- src/putting.rt:108:21
 enum-known-h : tie.Need-enum-known-h
 enum-known-h c = search needs
 
--- src/putting.rt:108:27
 put-next-requires : tie.Need-put-next-requires
 put-next-requires c κs = (c .before .before .before .before .before .before .before .pre .0, rw (c .before .before .h .given .1) at (c .before .before .before .before .header-at .ensures))
 
--- src/putting.rt:100:1
 returns : tie.Need-returns
 returns c = λ zs ws u old g p. never-cut _ (p .state) (p .reads) (rw (p .offset) (c .before .before .before .before .before .pre .1)) (rw (p .offset) (rw (c .enum-told .given .1) at (c .before .before .header-at .ensures)))
 
--- src/putting.rt:100:1
 same-length : tie.Need-same-length
 same-length c = search needs
 
--- src/putting.rt:100:1
 returns-2 : tie.Need-returns-2
 returns-2 c = search needs
 

@@ -1,8 +1,8 @@
+-- `joiner::putting::put` meets its contract: the loop keeps `Putting`, and each item takes bytes. Assumes nothing.
 use mathlib.Core.Path.{refl}
 use mathlib.Core.List.{List}
 use Prim.Native.Nat.{ℕ, _-_}
 use native.Mathlib.Omega.{arith}
-use borrow.Author.Needs.{needs}
 use lib.ListN.{length}
 use Rattle.format.specs.Item.{Item}
 use Rattle.format.specs.Reading.{State}
@@ -10,9 +10,6 @@ use Rattle.joiner.specs.Putting.{Planning, Put, Putting}
 use Rattle.joiner.proofs.PutLoop.{put-as, put-start, put-end, kept}
 use Rattle.joiner.proofs.putting.put.Statement.{statement}
 use Rattle.joiner.proofs.putting.put.Tie as tie
-use Rattle.joiner.proofs.putting.put.Reads as reads
-use Rattle.joiner.proofs.putting.put.Lts as lts
-use Rattle.joiner.proofs.putting.item.Reads as item-reads
 
 abbrev Inv-loop : tie.InvT-loop
 Inv-loop out₀ s plan w₀ out w = (zs ws : List Item) (u : State) (old : List ℕ) → Planning s zs ws u plan (length old) → Put zs old out₀ w₀ → Putting s zs u old out w
@@ -20,27 +17,21 @@ Inv-loop out₀ s plan w₀ out w = (zs ws : List Item) (u : State) (old : List 
 abbrev μ-loop : tie.MeasureT-loop
 μ-loop out₀ s plan w₀ out w = length s - w .at
 
--- src/putting.rt:123:5
 loop-holds : tie.Need-loop-holds Inv-loop μ-loop
 loop-holds c = λ zs ws u old g p. put-start g p refl
 
--- src/putting.rt:124:9
 item-requires : tie.Need-item-requires Inv-loop μ-loop
 item-requires c κs = let k = c .before .before .before .before .before .before .pre in (record { zs = k .zs; ws = k .ws; u = k .u; old = k .old; planning = k .planning; putting = c .before .before .before .loop .inv _ _ _ _ (k .planning) (put-as (k .put) refl refl) }, c .before .if1 .taken)
 
--- src/putting.rt:123:5
 loop-less : tie.Need-loop-less Inv-loop μ-loop
 loop-less c = let k = c .before .before .before .before .before .before .before .before .before .pre in omega (arith, c .before .before .item .ensures _ _ _ _ (k .planning) (c .before .before .before .before .before .before .loop .inv _ _ _ _ (k .planning) (put-as (k .put) refl refl)) .ahead, c .before .before .before .before .if1 .taken)
 
--- src/putting.rt:123:5
 loop-again : tie.Need-loop-again Inv-loop μ-loop
 loop-again c = λ zs ws u old g p. c .before .before .item .ensures zs ws u old g (c .before .before .before .before .before .before .loop .inv zs ws u old g p) .putting
 
--- src/putting.rt:113:1
 same-length : tie.Need-same-length Inv-loop μ-loop
 same-length c = let k = c .before .before .before .before .before .pre in kept (k .planning) (k .put) (c .before .before .loop .inv _ _ _ _ (k .planning) (put-as (k .put) refl refl))
 
--- src/putting.rt:113:1
 returns : tie.Need-returns Inv-loop μ-loop
 returns c = λ zs ws u old g p. put-end g (c .before .before .loop .inv zs ws u old g (put-as p refl refl)) (c .if1 .left)
 

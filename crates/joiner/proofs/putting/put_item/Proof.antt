@@ -1,5 +1,6 @@
-use mathlib.Core.Path.{_≡_, refl, sym, ap, _∙_}
-use Prim.Native.Nat.{ℕ, _+_, _-_}
+-- `joiner::putting::put_item` meets its contract, code by code. Assumes nothing.
+use mathlib.Core.Path.{_≡_, sym, _∙_}
+use Prim.Native.Nat.{_+_, _-_}
 use native.Mathlib.Omega.{arith}
 use Rattle.joiner.specs.Items.{sized}
 use Rattle.joiner.proofs.Arms.{number-code, fixed-code}
@@ -7,116 +8,82 @@ use Rattle.joiner.proofs.Rewritten.{rewritten-number, rewritten-referen
 use borrow.Author.Needs.{needs}
 use Rattle.joiner.proofs.putting.put_item.Statement.{statement}
 use Rattle.joiner.proofs.putting.put_item.Tie as tie
-use Rattle.joiner.proofs.putting.put_item.Reads as reads
-use Rattle.joiner.proofs.putting.put_item.Lts as lts
-use Rattle.encoder.proofs.putting.put_fixed.Reads as put-fixed-reads
-use Rattle.encoder.proofs.putting.put_named.Reads as put-named-reads
-use Rattle.encoder.proofs.putting.put_sized.Reads as put-sized-reads
-use Rattle.joiner.proofs.item.is_fixed.Reads as is-fixed-reads
-use Rattle.joiner.proofs.item.is_number.Reads as is-number-reads
-use Rattle.joiner.proofs.item.number_of.Reads as number-of-reads
-use Rattle.wire.proofs.output.put_header.Reads as put-header-reads
 
--- src/putting.rt:46:8
 is-number-requires : tie.Need-is-number-requires
 is-number-requires c κs = search needs
 
--- src/putting.rt:49:40
 number-of-requires : tie.Need-number-of-requires
 number-of-requires c κs = search needs
 
--- src/putting.rt:49:18
 put-header-requires : tie.Need-put-header-requires
 put-header-requires c κs = let n = sym (c .before .before .before .is-number .ensures) ∙ c .before .before .if1 .taken in (omega (arith, number-code (c .before .before .before .before .before .before .args .h .code) n), rw (c .number-of .ensures) (rw (rewritten-number _ _ _ (c .before .before .before .before .before .before .args .h) n) at (c .before .before .before .before .before .before .pre .2)))
 
--- src/putting.rt:47:9
 same-length : tie.Need-same-length
 same-length c = search needs
 
--- src/putting.rt:47:9
 returns : tie.Need-returns
 returns c = let n = sym (c .before .before .before .before .before .before .is-number .ensures) ∙ c .before .before .before .before .before .if1 .taken in (rw (rewritten-number _ _ _ (c .before .before .before .before .before .before .before .before .before .args .h) n, ← c .before .before .before .number-of .ensures) (c .before .before .put-header .ensures), ends-number (c .before .before .before .before .before .before .before .before .before .args .s .now) (c .before .before .before .before .before .before .before .before .before .args .refer) _ (c .before .before .before .before .before .before .before .before .before .args .h) n)
 
--- src/putting.rt:55:18
 put-header-requires-2 : tie.Need-put-header-requires-2
 put-header-requires-2 c κs = let n = sym (c .before .before .before .is-number .ensures) ∙ c .before .before .if1 .left in (omega arith, rw (rewritten-reference _ _ _ (c .before .before .before .before .before .before .args .h) n (c .before .if2 .taken)) at (c .before .before .before .before .before .before .pre .2))
 
--- src/putting.rt:53:9
 same-length-2 : tie.Need-same-length-2
 same-length-2 c = search needs
 
--- src/putting.rt:53:9
 returns-2 : tie.Need-returns-2
 returns-2 c = let n = sym (c .before .before .before .before .before .before .is-number .ensures) ∙ c .before .before .before .before .before .if1 .left in (rw (rewritten-reference (c .before .before .before .before .before .before .before .before .before .args .s .now) (c .before .before .before .before .before .before .before .before .before .args .refer) (c .before .before .before .before .before .before .before .before .before .args .next) (c .before .before .before .before .before .before .before .before .before .args .h) n (c .before .before .before .before .if2 .taken)) (c .before .before .put-header2 .ensures), ends-reference (c .before .before .before .before .before .before .before .before .before .args .s .now) (c .before .before .before .before .before .before .before .before .before .args .refer) _ (c .before .before .before .before .before .before .before .before .before .args .h) n (c .before .before .before .before .if2 .taken))
 
--- src/putting.rt:58:8
 is-fixed-requires : tie.Need-is-fixed-requires
 is-fixed-requires c κs = search needs
 
--- src/putting.rt:61:18
 put-fixed-requires : tie.Need-put-fixed-requires
 put-fixed-requires c κs = let n = sym (c .before .before .before .before .before .is-number .ensures) ∙ c .before .before .before .before .if1 .left in let f = sym (c .before .before .is-fixed .ensures) ∙ c .before .if3 .taken in (fixed-code (c .before .before .before .before .before .before .before .before .args .h .code) (c .before .before .before .before .before .before .before .before .args .h .sz) f .1, rw (rewritten-fixed (c .before .before .before .before .before .before .before .before .args .s .now) (c .before .before .before .before .before .before .before .before .args .refer) (c .before .before .before .before .before .before .before .before .args .next) (c .before .before .before .before .before .before .before .before .args .h) n (c .before .before .before .if2 .left) f) at (c .before .before .before .before .before .before .before .before .pre .2))
 
--- src/putting.rt:59:9
 same-length-3 : tie.Need-same-length-3
 same-length-3 c = search needs
 
--- src/putting.rt:59:9
 returns-3 : tie.Need-returns-3
 returns-3 c = let n = sym (c .before .before .before .before .before .before .before .before .is-number .ensures) ∙ c .before .before .before .before .before .before .before .if1 .left in let f = sym (c .before .before .before .before .before .is-fixed .ensures) ∙ c .before .before .before .before .if3 .taken in (rw (rewritten-fixed (c .before .before .before .before .before .before .before .before .before .before .before .args .s .now) (c .before .before .before .before .before .before .before .before .before .before .before .args .refer) (c .before .before .before .before .before .before .before .before .before .before .before .args .next) (c .before .before .before .before .before .before .before .before .before .before .before .args .h) n (c .before .before .before .before .before .before .if2 .left) f) (c .before .before .put-fixed .ensures), ends-fixed (c .before .before .before .before .before .before .before .before .before .before .before .args .s .now) (c .before .before .before .before .before .before .before .before .before .before .before .args .refer) _ (c .before .before .before .before .before .before .before .before .before .before .before .args .h) n (c .before .before .before .before .before .before .if2 .left) f)
 
--- src/putting.rt:64:13
 add-e : tie.Need-add-e
 add-e c = let n = sym (c .before .before .before .before .is-number .ensures) ∙ c .before .before .before .if1 .left in let f = sym (c .before .is-fixed .ensures) ∙ c .if3 .left in omega (arith, held-within (c .before .before .before .before .before .before .before .args .s .now) (c .before .before .before .before .before .before .before .args .refer) (c .before .before .before .before .before .before .before .args .next) (c .before .before .before .before .before .before .before .args .h) n (c .before .before .if2 .left) f (c .before .before .before .before .before .before .before .pre .0), c .before .before .before .before .before .before .before .pre .1)
 
--- src/putting.rt:68:49
 sub-put-named : tie.Need-sub-put-named
 sub-put-named c = search needs
 
--- src/putting.rt:68:49
 part-put-named-start : tie.Need-part-put-named-start
 part-put-named-start c = search needs
 
--- src/putting.rt:68:49
 part-put-named-end : tie.Need-part-put-named-end
 part-put-named-end c = let n = sym (c .before .before .before .before .before .before .is-number .ensures) ∙ c .before .before .before .before .before .if1 .left in let f = sym (c .before .before .before .is-fixed .ensures) ∙ c .before .before .if3 .left in omega (arith, held-within (c .before .before .before .before .before .before .before .before .before .args .s .now) (c .before .before .before .before .before .before .before .before .before .args .refer) (c .before .before .before .before .before .before .before .before .before .args .next) (c .before .before .before .before .before .before .before .before .before .args .h) n (c .before .before .before .before .if2 .left) f (c .before .before .before .before .before .before .before .before .before .pre .0))
 
--- src/putting.rt:68:18
 put-named-requires : tie.Need-put-named-requires
 unfolding sized
 put-named-requires c κs = let n = sym (c .before .before .before .before .before .before .before .is-number .ensures) ∙ c .before .before .before .before .before .before .if1 .left in let f = sym (c .before .before .before .before .is-fixed .ensures) ∙ c .before .before .before .if3 .left in let d : c .before .before .before .before .before .before .before .before .before .before .args .next + c .before .before .before .before .before .before .before .before .before .before .args .h .payload - c .before .before .before .before .before .before .before .before .before .before .args .next ≡ c .before .before .before .before .before .before .before .before .before .before .args .h .payload = omega arith in (omega (arith, c .before .before .before .before .before .if2 .left), rw d (rw (rewritten-name (c .before .before .before .before .before .before .before .before .before .before .args .s .now) (c .before .before .before .before .before .before .before .before .before .before .args .refer) (c .before .before .before .before .before .before .before .before .before .before .args .next) (c .before .before .before .before .before .before .before .before .before .before .args .h) n (c .before .before .before .before .before .if2 .left) f (c .before .before .if4 .taken)) at (c .before .before .before .before .before .before .before .before .before .before .pre .2)))
 
--- src/putting.rt:66:9
 same-length-4 : tie.Need-same-length-4
 same-length-4 c = search needs
 
--- src/putting.rt:66:9
 returns-4 : tie.Need-returns-4
 unfolding sized
 returns-4 c = let n = sym (c .before .before .before .before .before .before .before .before .before .before .is-number .ensures) ∙ c .before .before .before .before .before .before .before .before .before .if1 .left in let f = sym (c .before .before .before .before .before .before .before .is-fixed .ensures) ∙ c .before .before .before .before .before .before .if3 .left in let d : c .before .before .before .before .before .before .before .before .before .before .before .before .before .args .next + c .before .before .before .before .before .before .before .before .before .before .before .before .before .args .h .payload - c .before .before .before .before .before .before .before .before .before .before .before .before .before .args .next ≡ c .before .before .before .before .before .before .before .before .before .before .before .before .before .args .h .payload = omega arith in (rw (rewritten-name (c .before .before .before .before .before .before .before .before .before .before .before .before .before .args .s .now) (c .before .before .before .before .before .before .before .before .before .before .before .before .before .args .refer) (c .before .before .before .before .before .before .before .before .before .before .before .before .before .args .next) (c .before .before .before .before .before .before .before .before .before .before .before .before .before .args .h) n (c .before .before .before .before .before .before .before .before .if2 .left) f (c .before .before .before .before .before .if4 .taken)) (rw d at (c .before .before .put-named .ensures)), ends-held (c .before .before .before .before .before .before .before .before .before .before .before .before .before .args .s .now) (c .before .before .before .before .before .before .before .before .before .before .before .before .before .args .refer) _ (c .before .before .before .before .before .before .before .before .before .before .before .before .before .args .h) n (c .before .before .before .before .before .before .before .before .if2 .left) f)
 
--- src/putting.rt:73:38
 sub-put-sized : tie.Need-sub-put-sized
 sub-put-sized c = search needs
 
--- src/putting.rt:73:38
 part-put-sized-start : tie.Need-part-put-sized-start
 part-put-sized-start c = search needs
 
--- src/putting.rt:73:38
 part-put-sized-end : tie.Need-part-put-sized-end
 part-put-sized-end c = let n = sym (c .before .before .before .before .before .before .is-number .ensures) ∙ c .before .before .before .before .before .if1 .left in let f = sym (c .before .before .before .is-fixed .ensures) ∙ c .before .before .if3 .left in omega (arith, held-within (c .before .before .before .before .before .before .before .before .before .args .s .now) (c .before .before .before .before .before .before .before .before .before .args .refer) (c .before .before .before .before .before .before .before .before .before .args .next) (c .before .before .before .before .before .before .before .before .before .args .h) n (c .before .before .before .before .if2 .left) f (c .before .before .before .before .before .before .before .before .before .pre .0))
 
--- src/putting.rt:73:14
 put-sized-requires : tie.Need-put-sized-requires
 unfolding sized
 put-sized-requires c κs = let n = sym (c .before .before .before .before .before .before .before .is-number .ensures) ∙ c .before .before .before .before .before .before .if1 .left in let f = sym (c .before .before .before .before .is-fixed .ensures) ∙ c .before .before .before .if3 .left in let d : c .before .before .before .before .before .before .before .before .before .before .args .next + c .before .before .before .before .before .before .before .before .before .before .args .h .payload - c .before .before .before .before .before .before .before .before .before .before .args .next ≡ c .before .before .before .before .before .before .before .before .before .before .args .h .payload = omega arith in (omega (arith, c .before .before .if4 .left), rw d (rw (rewritten-sized (c .before .before .before .before .before .before .before .before .before .before .args .s .now) (c .before .before .before .before .before .before .before .before .before .before .args .refer) (c .before .before .before .before .before .before .before .before .before .before .args .next) (c .before .before .before .before .before .before .before .before .before .before .args .h) n (c .before .before .before .before .before .if2 .left) f (c .before .before .if4 .left)) at (c .before .before .before .before .before .before .before .before .before .before .pre .2)))
 
--- src/putting.rt:39:1
 same-length-5 : tie.Need-same-length-5
 same-length-5 c = search needs
 
--- src/putting.rt:39:1
 returns-5 : tie.Need-returns-5
 unfolding sized
 returns-5 c = let n = sym (c .before .before .before .before .before .before .before .before .before .before .is-number .ensures) ∙ c .before .before .before .before .before .before .before .before .before .if1 .left in let f = sym (c .before .before .before .before .before .before .before .is-fixed .ensures) ∙ c .before .before .before .before .before .before .if3 .left in let d : c .before .before .before .before .before .before .before .before .before .before .before .before .before .args .next + c .before .before .before .before .before .before .before .before .before .before .before .before .before .args .h .payload - c .before .before .before .before .before .before .before .before .before .before .before .before .before .args .next ≡ c .before .before .before .before .before .before .before .before .before .before .before .before .before .args .h .payload = omega arith in (rw (rewritten-sized (c .before .before .before .before .before .before .before .before .before .before .before .before .before .args .s .now) (c .before .before .before .before .before .before .before .before .before .before .before .before .before .args .refer) (c .before .before .before .before .before .before .before .before .before .before .before .before .before .args .next) (c .before .before .before .before .before .before .before .before .before .before .before .before .before .args .h) n (c .before .before .before .before .before .before .before .before .if2 .left) f (c .before .before .before .before .before .if4 .left)) (rw d at (c .before .before .put-sized .ensures)), ends-held (c .before .before .before .before .before .before .before .before .before .before .before .before .before .args .s .now) (c .before .before .before .before .before .before .before .before .before .before .before .before .before .args .refer) _ (c .before .before .before .before .before .before .before .before .before .before .before .before .before .args .h) n (c .before .before .before .before .before .before .before .before .if2 .left) f)
