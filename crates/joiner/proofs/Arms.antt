@@ -22,6 +22,7 @@ use Rattle.format.proofs.Encoding.{full-other, no-name}
 use Rattle.format.proofs.Names.{item-path}
 use Rattle.symbols.specs.Entry.{name}
 use Rattle.wire.proofs.OutputLaws.{header-short}
+use Rattle.reader.proofs.Contents.{form-bytes, form-coded}
 use Rattle.encoder.proofs.Lengths.{full-fixed, length-fixed}
 use Rattle.joiner.specs.Items.{numberOf, sized}
 use Rattle.joiner.proofs.Turns.{Turn}
@@ -51,21 +52,12 @@ module _ (h : Header) where
       (λ g. rw (e, ltb-no {a = h .sz} {b = 3} g, ltb-yes {a = h .sz} {b = 5} l))
       (λ g. rw (e, ltb-yes {a = h .sz} {b = 3} g))
 
-  pub form-coded : 4 ≤ h .code → h .code ≤ 6 → formOf h ≡ content (h .code + 5)
-  unfolding formOf pick
-  form-coded l u =
-      rw (eqb-no {a = h .code} {b = 0} (omega arith), eqb-no {a = h .code} {b = 1} (omega arith), eqb-no {a = h .code} {b = 2} (omega arith), eqb-no {a = h .code} {b = 3} (omega arith), ltb-yes {a = h .code} {b = 7} (omega arith))
-
-  form-bytes : h .code ≡ 0 → 5 ≤ h .sz → formOf h ≡ content (h .code + 5)
-  unfolding formOf pick
-  form-bytes e l = rw (e, ltb-no {a = h .sz} {b = 3} (omega arith), ltb-no {a = h .sz} {b = 5} l)
-
   -- no number, no fixed type and no reference: content follows
   pub form-held : leb 1 (h .code) && leb (h .code) 3 ≡ false → eqb (h .code) 0 && ltb (h .sz) 5 ≡ false → h .code < 7 → formOf h ≡ content (h .code + 5)
   form-held n f l =
-      order 4 (h .code) (λ g. form-coded g (omega arith))
+      order 4 (h .code) (λ g. form-coded h (h .code) refl g (omega arith))
       (λ g. equal (h .code) 0
-      (λ z. form-bytes z (ltb-false _ _ (and-right (eqb-yes z) f)))
+      (λ z. form-bytes h z (ltb-false _ _ (and-right (eqb-yes z) f)) ∙ ap (λ (c : ℕ). content (c + 5)) (sym z))
       (λ z. clash (and-yes (leb-yes {a = 1} {b = h .code} (omega arith)) (leb-yes {a = h .code} {b = 3} (omega arith))) n))
 
   pub form-reference : 7 ≤ h .code → formOf h ≡ reference

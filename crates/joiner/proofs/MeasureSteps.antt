@@ -26,7 +26,7 @@ use Rattle.encoder.proofs.MeasureLaws.{measure-plain, measure-known, measure-fr
 use Rattle.joiner.specs.declared.measuring.Tally.{Tally}
 use Rattle.joiner.specs.Measuring.{tallied, Mapped, Bundled, Partway, Onward, on, over}
 use Rattle.joiner.proofs.MapLaws.{mapped-noted, mapped-entry}
-use Rattle.joiner.proofs.Turns.{Turn, turn}
+use Rattle.joiner.proofs.Turns.{Turn, turn, header-within, items-all, items-more}
 use Rattle.joiner.proofs.Arms.{Plain, name-is, name-part, name-text, name-room, name-entry, name-ends, content-inside, content-length, reference-entry, reference-ends, reference-kept}
 
 module _ {a b s : List ℕ} {side : ℕ} {zs : List Item} {u : State} (w : Bundled a b s side zs u) {es links to plan : List ℕ} {t : Tally} (p : Partway a b s zs u es links to plan t)
@@ -47,17 +47,13 @@ module _ {a b s : List ℕ} {side : ℕ} {zs : List Item} {u : State} (w : Bundl
   ys = zs ++ itemsOf (st .found)
 
   more : zs ++ itemsOf (next .found) ≡ ys ++ (x ∷ [])
-  unfolding after
-  more =
-      ap (λ (v : State). zs ++ itemsOf (v .found)) (turned .goes) ∙ ap (λ (l : List Item). zs ++ l) (items-snoc (st .found) (turned .y))
-      ∙ sym (append-assoc zs (itemsOf (st .found)) (x ∷ []))
+  more = items-more turned zs
 
   long : length ys ≡ length zs + length (st .found)
   long = length-append zs (itemsOf (st .found)) ∙ ap (λ (n : ℕ). length zs + n) (length-items (st .found))
 
-  -- what is measured, this item, and those after it
   whole : zs ++ itemsOf (u .found) ≡ ys ++ (x ∷ turned .later)
-  whole = ap (λ (l : List Item). zs ++ l) (turned .all) ∙ sym (append-assoc zs (itemsOf (st .found)) (x ∷ turned .later))
+  whole = items-all turned zs
 
   pub room : t .row < 1024
   room =
@@ -71,8 +67,7 @@ module _ {a b s : List ℕ} {side : ℕ} {zs : List Item} {u : State} (w : Bundl
 
   -- the header ends within the bytes
   pub inside : t .at + h .size ≤ length s
-  unfolding after
-  inside = omega (arith, p .offset, turned .within, ap (λ (v : State). v .at) (turned .goes))
+  inside = omega (arith, p .offset, header-within turned)
 
   pub forward : t .at < t .at + h .size
   forward = omega (arith, size-within _ h (sym e))

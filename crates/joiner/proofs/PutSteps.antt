@@ -32,7 +32,7 @@ use Rattle.joiner.specs.Items.{rewritten, contentLength, Whole}
 use Rattle.joiner.specs.Measuring.{Mapped}
 use Rattle.joiner.specs.Putting.{Planning, Putting, Onward}
 use Rattle.joiner.proofs.MapLaws.{mapped-noted, mapped-entry}
-use Rattle.joiner.proofs.Turns.{Turn, turn}
+use Rattle.joiner.proofs.Turns.{Turn, turn, header-within, items-all, items-more}
 use Rattle.joiner.proofs.Arms.{number-code, fixed-code, form-held, number-plain, number-full, fixed-plain, fixed-full, content-plain, content-full, name-is, reference-entry}
 use Rattle.joiner.proofs.Rewritten.{rewritten-number, rewritten-reference, rewritten-fixed, rewritten-name, rewritten-sized}
 
@@ -57,15 +57,10 @@ module _ {s : List ℕ} {zs ws : List Item} {u : State} {plan old : List ℕ} (g
   later = turned .later ++ ws
 
   whole : (zs ++ itemsOf (u .found)) ++ ws ≡ ys ++ (x ∷ later)
-  whole =
-      ap (λ (l : List Item). (zs ++ l) ++ ws) (turned .all) ∙ ap (λ (l : List Item). l ++ ws) (sym (append-assoc zs (itemsOf (st .found)) (x ∷ turned .later)))
-      ∙ append-assoc ys (x ∷ turned .later) ws
+  whole = ap (λ (l : List Item). l ++ ws) (items-all turned zs) ∙ append-assoc ys (x ∷ turned .later) ws
 
   more : zs ++ itemsOf (next .found) ≡ ys ++ (x ∷ [])
-  unfolding after
-  more =
-      ap (λ (v : State). zs ++ itemsOf (v .found)) (turned .goes) ∙ ap (λ (l : List Item). zs ++ l) (items-snoc (st .found) (turned .y))
-      ∙ sym (append-assoc zs (itemsOf (st .found)) (x ∷ []))
+  more = items-more turned zs
 
   planned : Planned plan (ys ++ (x ∷ later))
   planned = rw whole at (g .planned)
@@ -147,8 +142,7 @@ module _ {s : List ℕ} {zs ws : List Item} {u : State} {plan old : List ℕ} (g
   tail-long = rw (length-take, length-drop) (omega (arith, fits-here))
 
   pub inside : w .at + h .size ≤ length s
-  unfolding after
-  inside = omega (arith, p .offset, turned .within, ap (λ (v : State). v .at) (turned .goes))
+  inside = omega (arith, p .offset, header-within turned)
 
   pub content-whole : Whole s (w .at + h .size) h
   content-whole =

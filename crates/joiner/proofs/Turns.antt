@@ -50,6 +50,26 @@ turns s h {a} (more {t = t} {u = u} {bs = bs} p v) q e =
 pub turn : (s : List ℕ) {a u : State} {h : Header} → run lenient a 0 (drop (a .at) s) ≡ good u → some h ≡ headerOf (drop (a .at) s) → Turn s a u h
 turn s {h = h} r e = turns s h (run-reads _ r) refl e
 
+module _ {s : List ℕ} {a u : State} {h : Header} (w : Turn s a u h) where
+  -- The header ends within the bytes.
+  pub header-within : a .at + h .size ≤ length s
+  unfolding after
+  header-within = omega (arith, w .within, ap (λ (v : State). v .at) (w .goes))
+
+  -- ---- after the items zs
+
+  module _ (zs : List Item) where
+    -- one item more
+    pub items-more : zs ++ itemsOf (w .next .found) ≡ (zs ++ itemsOf (a .found)) ++ (w .y .item ∷ [])
+    unfolding after
+    items-more =
+        ap (λ (v : State). zs ++ itemsOf (v .found)) (w .goes) ∙ ap (λ (l : List Item). zs ++ l) (items-snoc (a .found) (w .y))
+        ∙ sym (append-assoc zs (itemsOf (a .found)) (w .y .item ∷ []))
+
+    -- those before it, it, and those after it
+    pub items-all : zs ++ itemsOf (u .found) ≡ (zs ++ itemsOf (a .found)) ++ (w .y .item ∷ w .later)
+    items-all = ap (λ (l : List Item). zs ++ l) (w .all) ∙ sym (append-assoc zs (itemsOf (a .found)) (w .y .item ∷ w .later))
+
 -- Where a byte is left there is a whole header.
 headed : (s : List ℕ) {a u : State} {bs : List ℕ} → Reads lenient a bs u → 0 < length bs → (h : Header) × (headerOf bs ≡ some h)
 headed s (done d) l = absurd (omega arith)
