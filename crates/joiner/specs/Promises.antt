@@ -6,8 +6,8 @@ use lib.ListN.{length}
 use Rattle.format.specs.Answer.{counted, stored}
 use Rattle.format.specs.Reading.{lenient}
 use Rattle.format.specs.Joining.{canonicalizing, joining}
-use Rattle.writer.specs.declared.writing.Written.{Written}
-use Rattle.writer.specs.Answers as writer
+use Rattle.format.specs.declared.written.Written.{Written}
+use Rattle.format.specs.Written as written
 use Rattle.joiner.specs.declared.merging.Joined.{Joined}
 use Rattle.joiner.specs.Answers.{answerOf}
 
@@ -18,5 +18,5 @@ pub record Joins (a b old : List ℕ) (r : Joined) (new : List ℕ) : Type 0 whe
 
 -- Of a bundle, likewise.
 pub record Canonicalizes (bs old : List ℕ) (r : Written) (new : List ℕ) : Type 0 where
-  pub answer : writer.answerOf r ≡ counted (canonicalizing bs (length old))
+  pub answer : written.answerOf r ≡ counted (canonicalizing bs (length old))
   pub buffer : new ≡ stored old (canonicalizing bs (length old))

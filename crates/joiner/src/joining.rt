@@ -1,14 +1,14 @@
 // Joining two bundles, and the canonical encoding of one.
 ghost use mathlib.Core.Path.{_≡_};
 ghost use Rattle.format.specs.Answer.{onSide};
-ghost use Rattle.writer.specs.Answers as writer;
+ghost use Rattle.format.specs.Written as written;
 ghost use Rattle.joiner.specs.Answers.{answerOf};
 ghost use Rattle.joiner.specs.Promises.{Joins, Canonicalizes};
 use crate::merging::Joined;
 use crate::merging::merge;
+use format::Written;
 use reader::Checked;
 use reader::check;
-use writer::Written;
 
 // Writes the canonical encoding of the first bundle's fields followed by the second's; on an error no byte is changed.
 pub fn join<'a>(first: &'a [u8], second: &'a [u8], out: &mut [u8]) -> Joined
@@ -25,7 +25,7 @@ pub fn join<'a>(first: &'a [u8], second: &'a [u8], out: &mut [u8]) -> Joined
 
 // An answer that has no side.
 fn written(r: Joined) -> Written
-    ensures { λ w. ⌜ writer.answerOf w ≡ onSide 0 (answerOf r) ⌝ }
+    ensures { λ w. ⌜ written.answerOf w ≡ onSide 0 (answerOf r) ⌝ }
 {
     match r {
         Joined::Done(n) => Written::Done(n),

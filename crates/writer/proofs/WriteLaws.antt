@@ -22,13 +22,14 @@ use Rattle.format.proofs.Tests.{cases, eqb-no, eqb-true, equal, failed-good, go
 use Rattle.format.proofs.Steps.{then-good}
 use Rattle.format.proofs.Fitting.{fitted-fits, fitted-good, fitted-over}
 use Rattle.writer.specs.declared.state.State.{State}
-use Rattle.writer.specs.declared.writing.Written.{Written}
+use Rattle.format.specs.declared.written.Written.{Written}
 use Rattle.encoder.specs.Plan.{Measured}
 use Rattle.writer.specs.Putting.{Putting}
 use Rattle.writer.specs.Judging.{Passed, Verdict, isRowError}
 use Rattle.writer.proofs.StackLaws.{opened-length}
 use Rattle.symbols.proofs.ChainLaws.{length-names}
-use Rattle.writer.specs.Answers.{answerOf, limitOf, rowsIn}
+use Rattle.format.specs.Written.{answerOf}
+use Rattle.writer.specs.Extent.{limitOf, rowsIn}
 
 -- ---- how many rows are judged
 

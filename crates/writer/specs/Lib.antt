@@ -4,5 +4,5 @@ pub mod Rules
 pub mod Putting
 pub mod Judging
 pub mod Names
-pub mod Answers
+pub mod Extent
 pub mod Promises

@@ -6,8 +6,8 @@ use lib.ListN.{length}
 use Rattle.format.specs.declared.row.Row.{Row}
 use Rattle.format.specs.Answer.{counted, stored}
 use Rattle.format.specs.Writing.{writing}
-use Rattle.writer.specs.declared.writing.Written.{Written}
-use Rattle.writer.specs.Answers.{answerOf}
+use Rattle.format.specs.declared.written.Written.{Written}
+use Rattle.format.specs.Written.{answerOf}
 
 -- Of the rows `rs` over a text, into a buffer that held `old`: it answers `w` and leaves `new`.
 pub record Wrote (rs : List Row) (text old : List ℕ) (w : Written) (new : List ℕ) : Type 0 where

@@ -8,5 +8,4 @@ mod row;
 mod state;
 mod writing;
 
-pub use writing::Written;
 pub use writing::write;

@@ -10,8 +10,9 @@ ghost use Rattle.format.specs.Choice.{_||_};
 ghost use Rattle.format.specs.Answer.{counted};
 ghost use Rattle.format.specs.Error.{codeOf};
 ghost use Rattle.format.specs.Writing.{writing};
+ghost use Rattle.format.specs.Written.{answerOf};
 ghost use Rattle.writer.specs.Judging.{Verdict, isRowError};
-ghost use Rattle.writer.specs.Answers.{answerOf, limitOf, rowsIn};
+ghost use Rattle.writer.specs.Extent.{limitOf, rowsIn};
 ghost use Rattle.writer.specs.Promises.{Wrote};
 use crate::judging::judge;
 use crate::name::Plan;
@@ -20,12 +21,7 @@ use crate::state::State;
 use format::Bundle;
 use format::Error;
 use format::Row;
-
-// The number of bytes written, or the error with its place.
-pub enum Written {
-    Done(usize),
-    Failed(Error, usize),
-}
+use format::Written;
 
 // How many rows are to be judged: none where there are too many, or the text is too long.
 fn limit(count: usize, len: usize) -> usize
