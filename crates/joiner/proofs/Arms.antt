@@ -12,7 +12,7 @@ use lib.Seq.{length-take-le}
 use Rattle.format.specs.declared.header.Header.{Header}
 use Rattle.format.specs.Choice.{pick, _&&_}
 use Rattle.format.specs.Header.{header, headerOf, digits, following, shift, width, widthFrom}
-use Rattle.format.specs.Item.{Item, isName, isText}
+use Rattle.format.specs.Item.{isName, isText}
 use Rattle.format.specs.Utf8.{utf8}
 use Rattle.format.specs.Reading.{Found, State, Form, fixed, content, reference, formOf, isContent, itemOf, after}
 use Rattle.format.specs.Canonical.{full}
@@ -102,12 +102,6 @@ number-length code p l =
 -- ---- items
 
 module _ {s : List ℕ} {a u : State} {h : Header} (w : Turn s a u h) where
-  abbrev x : Item
-  x = w .y .item
-
-  abbrev begin : ℕ
-  begin = a .at + h .size
-
   -- an item that makes no entry, and whose content, if it has some, ends where the next item begins
   pub record Plain (n : ℕ) : Type 0 where
     pub no-name : isName (w .y .item) ≡ false

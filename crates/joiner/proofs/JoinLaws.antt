@@ -22,9 +22,9 @@ use Rattle.format.proofs.ReadBack.{reading-reads}
 use Rattle.format.proofs.Bounds.{reading-within, reads-rows}
 use Rattle.format.proofs.Fitting.{fitted-fits, fitted-over}
 use Rattle.format.proofs.Joins.{together-within}
-use Rattle.writer.specs.declared.writing.Written.{Written}
-use Rattle.writer.specs.declared.writing.Written.the-variants as written
-use Rattle.writer.specs.Answers as writer
+use Rattle.format.specs.declared.written.Written.{Written}
+use Rattle.format.specs.declared.written.Written.the-variants as variant
+use Rattle.format.specs.Written as written
 use Rattle.joiner.specs.declared.merging.Joined.{Joined}
 use Rattle.joiner.specs.declared.merging.Joined.the-variants.{Failed}
 use Rattle.joiner.specs.Answers.{answerOf}
@@ -71,7 +71,7 @@ module _ (a b old : List ℕ) (e : Error) (p : ℕ) where
 
 -- ---- canonicalizing
 
-pub unread-alone : (bs old : List ℕ) (e : Error) (p : ℕ) → fail (codeOf e) p ≡ counts lenient bs → Canonicalizes bs old (written.Failed e p) old
+pub unread-alone : (bs old : List ℕ) (e : Error) (p : ℕ) → fail (codeOf e) p ≡ counts lenient bs → Canonicalizes bs old (variant.Failed e p) old
 unfolding canonicalizing items then counted stored fail
 unread-alone bs old e p q = let r = unread bs q in record { answer = rw r; buffer = rw r }
 
@@ -109,7 +109,7 @@ module _ {bs : List ℕ} {m : ℕ} (w : Reads bs m) where
       (λ l. rw (fitted-fits capacity (canonical xs) l))
       (λ l. rw (fitted-over capacity (canonical xs) l))
 
-  pub canonicalized : {old new : List ℕ} {r : Joined} {v : Written} → Joins bs [] old r new → writer.answerOf v ≡ onSide 0 (answerOf r) → Canonicalizes bs old v new
+  pub canonicalized : {old new : List ℕ} {r : Joined} {v : Written} → Joins bs [] old r new → written.answerOf v ≡ onSide 0 (answerOf r) → Canonicalizes bs old v new
   canonicalized {old} j e =
       let k = ap counted (same (length old)) in
       let n = ap counted (alone (length old)) in

@@ -71,9 +71,9 @@ module _ {s : List ℕ} {a u : State} {h : Header} (w : Turn s a u h) where
     items-all = ap (λ (l : List Item). zs ++ l) (w .all) ∙ sym (append-assoc zs (itemsOf (a .found)) (w .y .item ∷ w .later))
 
 -- Where a byte is left there is a whole header.
-headed : (s : List ℕ) {a u : State} {bs : List ℕ} → Reads lenient a bs u → 0 < length bs → (h : Header) × (headerOf bs ≡ some h)
-headed s (done d) l = absurd (omega arith)
-headed s (more p v) l = (p .h, p .headed)
+headed : {a u : State} {bs : List ℕ} → Reads lenient a bs u → 0 < length bs → (h : Header) × (headerOf bs ≡ some h)
+headed (done d) l = absurd (omega arith)
+headed (more p v) l = (p .h, p .headed)
 
 pub never-cut {ℓ} : {X : Type ℓ} (s : List ℕ) (a : State) {u : State} → run lenient a 0 (drop (a .at) s) ≡ good u → a .at < length s → none ≡ headerOf (drop (a .at) s) → X
-never-cut s a r l e = let (h, q) = headed s (run-reads _ r) (rw length-drop (omega arith)) in none-some (e ∙ q)
+never-cut s a r l e = let (h, q) = headed (run-reads _ r) (rw length-drop (omega arith)) in none-some (e ∙ q)

@@ -42,7 +42,9 @@ same-length c = search needs
 returns : tie.Need-returns
 returns c =
     let s = c .before .before .before .before .before .before .before .before .before .before in
-    finish-all (both-wrote (header (s .args .code) (s .args .number)) (s .args .part .now) (s .args .out .now) _ _ _ _ (c .before .before .before .before .before .before .put-header .ensures .0) (c .before .before .before .before .before .before .put-header .ensures .1) (s .pre .1) (c .before .before .copy .ensures .0) (c .before .before .copy .ensures .1)) (omega (arith, s .pre .1, length-append (header (s .args .code) (s .args .number)) (s .args .part .now), c .before .before .before .before .before .before .put-header .ensures .0, c .before .before .copy .ensures .0))
+    let put-header′ = c .before .before .before .before .before .before .put-header in
+    let copy′ = c .before .before .copy in
+    finish-all (both-wrote (header (s .args .code) (s .args .number)) (s .args .part .now) (s .args .out .now) _ _ _ _ (put-header′ .ensures .0) (put-header′ .ensures .1) (s .pre .1) (copy′ .ensures .0) (copy′ .ensures .1)) (omega (arith, s .pre .1, length-append (header (s .args .code) (s .args .number)) (s .args .part .now), put-header′ .ensures .0, copy′ .ensures .0))
 
 pub put-sized-spec : {M : Type 1} → statement M
 put-sized-spec =

@@ -24,10 +24,19 @@ enum-known-b : tie.Need-enum-known-b
 enum-known-b c = search needs
 
 add-merge : tie.Need-add-merge
-add-merge c = omega (arith, reads-few (reads (c .before .before .before .before .before .before .before .before .before .before .before .before .before .before .args .first .now) (rw (c .before .before .before .before .before .before .before .before .a .given .1) at (c .before .before .before .before .before .before .before .before .before .before .check .ensures))), reads-few (reads (c .before .before .before .before .before .before .before .before .before .before .before .before .before .before .args .second .now) (rw (c .before .before .before .before .b .given .1) at (c .before .before .before .before .before .before .check2 .ensures))))
+add-merge c =
+    let s = c .before .before .before .before .before .before .before .before .before .before .before .before .before .before in
+    let a′ = c .before .before .before .before .before .before .before .before .a in
+    let check′ = c .before .before .before .before .before .before .before .before .before .before .check in
+    let check2′ = c .before .before .before .before .before .before .check2 in
+    omega (arith, reads-few (reads (s .args .first .now) (rw (a′ .given .1) at (check′ .ensures))), reads-few (reads (s .args .second .now) (rw (c .before .before .before .before .b .given .1) at (check2′ .ensures))))
 
 merge-requires : tie.Need-merge-requires
-merge-requires c κs = both (reads _ (rw (c .before .before .before .before .before .before .before .before .a .given .1) at (c .before .before .before .before .before .before .before .before .before .before .check .ensures))) (reads _ (rw (c .before .before .before .before .b .given .1) at (c .before .before .before .before .before .before .check2 .ensures)))
+merge-requires c κs =
+    let a′ = c .before .before .before .before .before .before .before .before .a in
+    let check′ = c .before .before .before .before .before .before .before .before .before .before .check in
+    let check2′ = c .before .before .before .before .before .before .check2 in
+    both (reads _ (rw (a′ .given .1) at (check′ .ensures))) (reads _ (rw (c .before .before .before .before .b .given .1) at (check2′ .ensures)))
 
 returns : tie.Need-returns
 returns c = unread-first _ _ _ _ _ (rw (c .before .e .given .1) at (c .before .before .before .check .ensures))

@@ -20,10 +20,20 @@ loop-holds : tie.Need-loop-holds Inv-loop μ-loop
 loop-holds c = λ zs u g. stage-start _ g refl refl refl
 
 item-requires : tie.Need-item-requires Inv-loop μ-loop
-item-requires c κs = let g = begun-as (c .before .before .before .before .before .before .before .before .before .before .pre .begun) refl refl refl in (stage-here (g .bundled) (c .before .before .before .before .before .before .loop .inv (c .before .before .before .before .before .before .before .before .before .before .pre .zs) (c .before .before .before .before .before .before .before .before .before .before .pre .u) g) (c .before .before .before .before .if1 .taken), c .before .before .before .before .if1 .taken)
+item-requires c κs =
+    let s = c .before .before .before .before .before .before .before .before .before .before in
+    let loop′ = c .before .before .before .before .before .before .loop in
+    let if1′ = c .before .before .before .before .if1 in
+    let g = begun-as (s .pre .begun) refl refl refl in
+    (stage-here (g .bundled) (loop′ .inv (s .pre .zs) (s .pre .u) g) (if1′ .taken), if1′ .taken)
 
 loop-less : tie.Need-loop-less Inv-loop μ-loop
-loop-less c = let g = begun-as (c .before .before .before .before .before .before .before .before .before .before .before .pre .begun) refl refl refl in stage-next (g .bundled) (c .before .before .before .before .before .before .before .loop .inv (c .before .before .before .before .before .before .before .before .before .before .before .pre .zs) (c .before .before .before .before .before .before .before .before .before .before .before .pre .u) g) (c .before .before .before .before .before .if1 .taken) (c .item .ensures) .1
+loop-less c =
+    let s = c .before .before .before .before .before .before .before .before .before .before .before in
+    let loop′ = c .before .before .before .before .before .before .before .loop in
+    let if1′ = c .before .before .before .before .before .if1 in
+    let g = begun-as (s .pre .begun) refl refl refl in
+    stage-next (g .bundled) (loop′ .inv (s .pre .zs) (s .pre .u) g) (if1′ .taken) (c .item .ensures) .1
 
 loop-again : tie.Need-loop-again Inv-loop μ-loop
 loop-again c = λ zs u g. stage-next (g .bundled) (c .before .before .before .before .before .before .before .loop .inv zs u g) (c .before .before .before .before .before .if1 .taken) (c .item .ensures) .0

@@ -24,7 +24,11 @@ item-requires : tie.Need-item-requires Inv-loop μ-loop
 item-requires c κs = let k = c .before .before .before .before .before .before .pre in (record { zs = k .zs; ws = k .ws; u = k .u; old = k .old; planning = k .planning; putting = c .before .before .before .loop .inv _ _ _ _ (k .planning) (put-as (k .put) refl refl) }, c .before .if1 .taken)
 
 loop-less : tie.Need-loop-less Inv-loop μ-loop
-loop-less c = let k = c .before .before .before .before .before .before .before .before .before .pre in omega (arith, c .before .before .item .ensures _ _ _ _ (k .planning) (c .before .before .before .before .before .before .loop .inv _ _ _ _ (k .planning) (put-as (k .put) refl refl)) .ahead, c .before .before .before .before .if1 .taken)
+loop-less c =
+    let s = c .before .before .before .before .before .before .before .before .before in
+    let loop′ = c .before .before .before .before .before .before .loop in
+    let k = s .pre in
+    omega (arith, c .before .before .item .ensures _ _ _ _ (k .planning) (loop′ .inv _ _ _ _ (k .planning) (put-as (k .put) refl refl)) .ahead, c .before .before .before .before .if1 .taken)
 
 loop-again : tie.Need-loop-again Inv-loop μ-loop
 loop-again c = λ zs ws u old g p. c .before .before .item .ensures zs ws u old g (c .before .before .before .before .before .before .loop .inv zs ws u old g p) .putting

@@ -29,19 +29,28 @@ add-put-item : tie.Need-add-put-item
 add-put-item c = let k = c .before .before .before .before .before .before .pre .0 in omega (arith, inside (k .planning) (k .putting) (c .before .before .before .before .before .before .pre .1), k .planning .short)
 
 put-item-requires : tie.Need-put-item-requires
-put-item-requires c κs = let k = c .before .before .before .before .before .before .pre .0 in (content-whole (k .planning) (k .putting) (c .before .before .before .before .before .before .pre .1), k .planning .short, tail-long (k .planning) (k .putting) (c .before .before .before .before .before .before .pre .1))
+put-item-requires c κs =
+    let s = c .before .before .before .before .before .before in
+    let k = s .pre .0 in
+    (content-whole (k .planning) (k .putting) (s .pre .1), k .planning .short, tail-long (k .planning) (k .putting) (s .pre .1))
 
 add-t10 : tie.Need-add-t10
 add-t10 c = let k = c .before .before .before .before .before .before .before .before .before .pre .0 in omega (arith, room (k .planning) (k .putting) (c .before .before .before .before .before .before .before .before .before .pre .1))
 
 add-t17 : tie.Need-add-t17
-add-t17 c = let k = c .before .before .before .before .before .before .before .before .before .before .pre .0 in omega (arith, fits-here (k .planning) (k .putting) (c .before .before .before .before .before .before .before .before .before .before .pre .1), c .before .before .before .put-item .ensures .0 .0)
+add-t17 c =
+    let s = c .before .before .before .before .before .before .before .before .before .before in
+    let k = s .pre .0 in
+    omega (arith, fits-here (k .planning) (k .putting) (s .pre .1), c .before .before .before .put-item .ensures .0 .0)
 
 same-length : tie.Need-same-length
 same-length c = search needs
 
 returns : tie.Need-returns
-returns c = λ zs ws u old g p. put-on g p (c .before .before .before .before .before .before .before .before .before .before .pre .1) _ _ (c .before .before .before .put-item .ensures .1) refl (puts-at _ _ (rewritten (c .before .before .before .before .before .before .before .before .before .before .args .s .now) (getD (c .before .before .before .before .before .before .before .before .before .before .args .plan .now) (c .before .before .before .before .before .before .before .before .before .before .args .w .row) 0) (c .before .before .before .before .before .before .before .before .before .before .args .w .at + c .before .before .before .before .before .before .before .before .before .before .args .h .size) (c .before .before .before .before .before .before .before .before .before .before .args .h)) _ _ (c .before .before .before .put-item .ensures .0))
+returns c =
+    let s = c .before .before .before .before .before .before .before .before .before .before in
+    let put-item′ = c .before .before .before .put-item in
+    λ zs ws u old g p. put-on g p (s .pre .1) _ _ (put-item′ .ensures .1) refl (puts-at _ _ (rewritten (s .args .s .now) (getD (s .args .plan .now) (s .args .w .row) 0) (s .args .w .at + s .args .h .size) (s .args .h)) _ _ (put-item′ .ensures .0))
 
 pub put-next-spec : {M : Type 1} → statement M
 put-next-spec =

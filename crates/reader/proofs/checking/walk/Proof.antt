@@ -26,10 +26,21 @@ enum-known-left : tie.Need-enum-known-left
 enum-known-left c = search needs
 
 returns-2 : tie.Need-returns-2
-returns-2 c = let w = rw (c .before .before .before .left .given .1) at (c .before .before .before .before .before .fields .ensures .0) in λ n m. let r = rw (c .before .before .before .left .given .1) at (c .before .before .before .before .before .fields .ensures .1 (outside 16385) (options (c .before .before .before .before .before .before .before .before .before .before .before .args .mode) n) start (sym (c .before .before .before .before .before .before .before .before .is-strict .ensures)) (outside-lane 16385) (stands-start _ _) (row-start (options (c .before .before .before .before .before .before .before .before .before .before .before .args .mode) n) (c .before .before .before .before .before .before .before .before .before .before .before .args .most) m) top-place) in top-keyed (options (c .before .before .before .before .before .before .before .before .before .before .before .args .mode) n) (c .before .before .before .before .before .before .before .before .before .before .before .args .bytes .now) (c .before .before .before .before .before .before .before .before .before .if1 .left) r (w .1) (eqb-yes (c .if2 .taken))
+returns-2 c =
+    let s = c .before .before .before .before .before .before .before .before .before .before .before in
+    let left′ = c .before .before .before .left in
+    let fields′ = c .before .before .before .before .before .fields in
+    let is-strict′ = c .before .before .before .before .before .before .before .before .is-strict in
+    let if1′ = c .before .before .before .before .before .before .before .before .before .if1 in
+    let w = rw (left′ .given .1) at (fields′ .ensures .0) in
+    λ n m. let r = rw (left′ .given .1) at (fields′ .ensures .1 (outside 16385) (options (s .args .mode) n) start (sym (is-strict′ .ensures)) (outside-lane 16385) (stands-start _ _) (row-start (options (s .args .mode) n) (s .args .most) m) top-place) in top-keyed (options (s .args .mode) n) (s .args .bytes .now) (if1′ .left) r (w .1) (eqb-yes (c .if2 .taken))
 
 sub-t22 : tie.Need-sub-t22
-sub-t22 c = let most : min max-rows (c .before .before .before .before .before .before .before .before .before .before .before .before .args .most) ≡ c .before .before .before .before .before .before .before .before .before .before .before .before .args .most = omega (arith, c .before .before .before .before .before .before .before .before .before .before .before .before .pre) in let r = rw (c .before .before .before .before .left .given .1) at (c .before .before .before .before .before .before .fields .ensures .1 (outside 16385) (options (c .before .before .before .before .before .before .before .before .before .before .before .before .args .mode) (c .before .before .before .before .before .before .before .before .before .before .before .before .args .most)) start (sym (c .before .before .before .before .before .before .before .before .before .is-strict .ensures)) (outside-lane 16385) (stands-start _ _) (row-start (options (c .before .before .before .before .before .before .before .before .before .before .before .before .args .mode) (c .before .before .before .before .before .before .before .before .before .before .before .before .args .most)) (c .before .before .before .before .before .before .before .before .before .before .before .before .args .most) most) top-place) in omega (arith, r .row)
+sub-t22 c =
+    let s = c .before .before .before .before .before .before .before .before .before .before .before .before in
+    let fields′ = c .before .before .before .before .before .before .fields in
+    let is-strict′ = c .before .before .before .before .before .before .before .before .before .is-strict in
+    let most : min max-rows (s .args .most) ≡ s .args .most = omega (arith, s .pre) in let r = rw (c .before .before .before .before .left .given .1) at (fields′ .ensures .1 (outside 16385) (options (s .args .mode) (s .args .most)) start (sym (is-strict′ .ensures)) (outside-lane 16385) (stands-start _ _) (row-start (options (s .args .mode) (s .args .most)) (s .args .most) most) top-place) in omega (arith, r .row)
 
 sub-t23 : tie.Need-sub-t23
 sub-t23 c = let w = rw (c .before .before .before .before .left .given .1) at (c .before .before .before .before .before .before .fields .ensures .0) in w .3
@@ -38,10 +49,21 @@ enum-known-u : tie.Need-enum-known-u
 enum-known-u c = search needs
 
 returns-3 : tie.Need-returns-3
-returns-3 c = λ n m. top-failed (options (c .before .before .before .before .before .before .before .before .before .args .mode) n) (c .before .before .before .before .before .before .before .before .before .args .bytes .now) (c .before .before .before .before .before .before .before .if1 .left) (c .before .k .given .0 .0) (c .before .k .given .0 .1 .0) (rw (c .before .k .given .1) at (c .before .before .before .fields .ensures .1 (outside 16385) (options (c .before .before .before .before .before .before .before .before .before .args .mode) n) start (sym (c .before .before .before .before .before .before .is-strict .ensures)) (outside-lane 16385) (stands-start _ _) (row-start (options (c .before .before .before .before .before .before .before .before .before .args .mode) n) (c .before .before .before .before .before .before .before .before .before .args .most) m) top-place))
+returns-3 c =
+    let s = c .before .before .before .before .before .before .before .before .before in
+    let if1′ = c .before .before .before .before .before .before .before .if1 in
+    let is-strict′ = c .before .before .before .before .before .before .is-strict in
+    λ n m. top-failed (options (s .args .mode) n) (s .args .bytes .now) (if1′ .left) (c .before .k .given .0 .0) (c .before .k .given .0 .1 .0) (rw (c .before .k .given .1) at (c .before .before .before .fields .ensures .1 (outside 16385) (options (s .args .mode) n) start (sym (is-strict′ .ensures)) (outside-lane 16385) (stands-start _ _) (row-start (options (s .args .mode) n) (s .args .most) m) top-place))
 
 returns-4 : tie.Need-returns-4
-returns-4 c = let w = rw (c .before .before .before .before .left .given .1) at (c .before .before .before .before .before .before .fields .ensures .0) in λ n m. let r = rw (c .before .before .before .before .left .given .1) at (c .before .before .before .before .before .before .fields .ensures .1 (outside 16385) (options (c .before .before .before .before .before .before .before .before .before .before .before .before .args .mode) n) start (sym (c .before .before .before .before .before .before .before .before .before .is-strict .ensures)) (outside-lane 16385) (stands-start _ _) (row-start (options (c .before .before .before .before .before .before .before .before .before .before .before .before .args .mode) n) (c .before .before .before .before .before .before .before .before .before .before .before .before .args .most) m) top-place) in top-good (options (c .before .before .before .before .before .before .before .before .before .before .before .before .args .mode) n) (c .before .before .before .before .before .before .before .before .before .before .before .before .args .bytes .now) (c .before .before .before .before .before .before .before .before .before .before .if1 .left) r (w .1) (c .before .before .before .before .before .before .before .before .before .before .before .before .args .most) m (w .0 .size) (w .0 .few) (eqb-no (c .before .if2 .left))
+returns-4 c =
+    let s = c .before .before .before .before .before .before .before .before .before .before .before .before in
+    let left′ = c .before .before .before .before .left in
+    let fields′ = c .before .before .before .before .before .before .fields in
+    let is-strict′ = c .before .before .before .before .before .before .before .before .before .is-strict in
+    let if1′ = c .before .before .before .before .before .before .before .before .before .before .if1 in
+    let w = rw (left′ .given .1) at (fields′ .ensures .0) in
+    λ n m. let r = rw (left′ .given .1) at (fields′ .ensures .1 (outside 16385) (options (s .args .mode) n) start (sym (is-strict′ .ensures)) (outside-lane 16385) (stands-start _ _) (row-start (options (s .args .mode) n) (s .args .most) m) top-place) in top-good (options (s .args .mode) n) (s .args .bytes .now) (if1′ .left) r (w .1) (s .args .most) m (w .0 .size) (w .0 .few) (eqb-no (c .before .if2 .left))
 
 returns-5 : tie.Need-returns-5
 returns-5 c = let w = rw (c .before .u .given .1) at (c .before .before .before .fields .ensures .0) in absurd (omega (arith, w .1, w .2, c .before .before .before .before .before .before .before .if1 .left))

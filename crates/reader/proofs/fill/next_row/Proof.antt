@@ -18,7 +18,10 @@ enum-known-h : tie.Need-enum-known-h
 enum-known-h c = search needs
 
 headed-row-requires : tie.Need-headed-row-requires
-headed-row-requires c κs = placed (c .before .before .before .before .before .before .args .s .now) _ _ (c .before .before .before .before .before .before .pre) (λ i. omega (arith, c .before .before .before .before .before .shared-slice-known .given i)) (rw (c .before .before .h .given .1) at (c .before .before .before .before .header-at .ensures))
+headed-row-requires c κs =
+    let s = c .before .before .before .before .before .before in
+    let shared-slice-known′ = c .before .before .before .before .before .shared-slice-known in
+    placed (s .args .s .now) _ _ (s .pre) (λ i. omega (arith, shared-slice-known′ .given i)) (rw (c .before .before .h .given .1) at (c .before .before .before .before .header-at .ensures))
 
 returns : tie.Need-returns
 returns c = next-none (c .before .before .before .before .before .args .s .now) _ _ (c .new .ensures) (rw (c .before .enum-told .given .1) at (c .before .before .before .header-at .ensures))

@@ -25,7 +25,9 @@ fresh-requires : tie.Need-fresh-requires
 fresh-requires c κs = search needs
 
 returns-2 : tie.Need-returns-2
-returns-2 c = λ s links l f. plain-entered s (c .before .before .before .args .entries .now) _ _ _ _ (c .before .before .before .pre .0) (c .before .before .before .pre .1) (c .before .before .before .pre .2) (c .before .before .before .pre .3) (f .size) links (c .before .plain-entry .ensures) (omega arith) (c .fresh .ensures)
+returns-2 c =
+    let outer = c .before .before .before in
+    λ s links l f. plain-entered s (outer .args .entries .now) _ _ _ _ (outer .pre .0) (outer .pre .1) (outer .pre .2) (outer .pre .3) (f .size) links (c .before .plain-entry .ensures) (omega arith) (c .fresh .ensures)
 
 pub any-name-spec : {M : Type 1} → statement M
 any-name-spec =

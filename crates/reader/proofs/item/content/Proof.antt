@@ -13,7 +13,9 @@ sub-if1 : tie.Need-sub-if1
 sub-if1 c = search needs
 
 returns : tie.Need-returns
-returns c = (λ strict es links at names depth m. tt, λ es o a at names keyed cs. content-cut cs _ (c .before .of .ensures) _ (c .before .before .before .pre .0 .form) (c .before .before .before .pre .0 .plain) (body-key (c .before .before .before .args .s .now) (c .before .before .before .args .next) _ keyed (c .before .before .before .pre .0)) (c .if1 .taken))
+returns c =
+    let s = c .before .before .before in
+    (λ strict es links at names depth m. tt, λ es o a at names keyed cs. content-cut cs _ (c .before .of .ensures) _ (s .pre .0 .form) (s .pre .0 .plain) (body-key (s .args .s .now) (s .args .next) _ keyed (s .pre .0)) (c .if1 .taken))
 
 add-e : tie.Need-add-e
 add-e c = search needs
@@ -31,10 +33,16 @@ bad-text-requires : tie.Need-bad-text-requires
 bad-text-requires c κs = search needs
 
 returns-2 : tie.Need-returns-2
-returns-2 c = (λ strict es links at names depth m. tt, λ es o a at names keyed cs. content-text cs _ (c .before .before .before .before .before .of .ensures) _ (c .before .before .before .before .before .before .before .pre .0 .form) (c .before .before .before .before .before .before .before .pre .0 .plain) (body-key (c .before .before .before .before .before .before .before .args .s .now) (c .before .before .before .before .before .before .before .args .next) _ keyed (c .before .before .before .before .before .before .before .pre .0)) (c .before .before .before .before .if1 .left) (body-text (c .before .before .before .before .before .before .before .args .s .now) (c .before .before .before .before .before .before .before .args .next) _ (c .before .before .before .before .before .before .before .pre .0) (c .before .bad-text .ensures) ∙ c .if2 .taken))
+returns-2 c =
+    let s = c .before .before .before .before .before .before .before in
+    let of′ = c .before .before .before .before .before .of in
+    (λ strict es links at names depth m. tt, λ es o a at names keyed cs. content-text cs _ (of′ .ensures) _ (s .pre .0 .form) (s .pre .0 .plain) (body-key (s .args .s .now) (s .args .next) _ keyed (s .pre .0)) (c .before .before .before .before .if1 .left) (body-text (s .args .s .now) (s .args .next) _ (s .pre .0) (c .before .bad-text .ensures) ∙ c .if2 .taken))
 
 returns-3 : tie.Need-returns-3
-returns-3 c = (λ strict es links at names depth m. record { on = omega (arith, m .on); within = omega arith; fair = m .fair }, λ es o a at names keyed cs. content-value cs _ (c .before .before .before .before .before .of .ensures) _ (c .before .before .before .before .before .before .before .pre .0 .form) (c .before .before .before .before .before .before .before .pre .0 .plain) (body-key (c .before .before .before .before .before .before .before .args .s .now) (c .before .before .before .before .before .before .before .args .next) _ keyed (c .before .before .before .before .before .before .before .pre .0)) (c .before .before .before .before .if1 .left) (body-text (c .before .before .before .before .before .before .before .args .s .now) (c .before .before .before .before .before .before .before .args .next) _ (c .before .before .before .before .before .before .before .pre .0) (c .before .bad-text .ensures) ∙ c .if2 .left) (c .before .before .before .before .before .before .before .pre .0 .low))
+returns-3 c =
+    let s = c .before .before .before .before .before .before .before in
+    let of′ = c .before .before .before .before .before .of in
+    (λ strict es links at names depth m. record { on = omega (arith, m .on); within = omega arith; fair = m .fair }, λ es o a at names keyed cs. content-value cs _ (of′ .ensures) _ (s .pre .0 .form) (s .pre .0 .plain) (body-key (s .args .s .now) (s .args .next) _ keyed (s .pre .0)) (c .before .before .before .before .if1 .left) (body-text (s .args .s .now) (s .args .next) _ (s .pre .0) (c .before .bad-text .ensures) ∙ c .if2 .left) (s .pre .0 .low))
 
 pub content-spec : {M : Type 1} → statement M
 content-spec =

@@ -37,10 +37,14 @@ reference-requires c κs = search needs
 
 returns-3 : tie.Need-returns-3
 returns-3 c =
-    let p = c .before .before .before .before .before .before .before .before .before .pre in
-    let a = c .before .before .before .before .before .before .before .before .before .args in
-    let st = standing (a .s .now) (a .at) (a .h) (p .1) (λ i. omega (arith, c .before .before .before .before .before .before .before .before .shared-slice-known .given i)) (p .0) in
-    (c .reference .ensures .0 (a .strict) (a .s .now) (a .links .now) (a .at) (a .depth) (past-header st (p .3)), λ o x so hold d. c .reference .ensures .1 (a .s .now) o x _ (a .at) (case so (sym (c .before .before .before .before .before .before .before .wasteful .ensures) ∙ c .before .before .before .before .before .before .if1 .left) hold))
+    let s = c .before .before .before .before .before .before .before .before .before in
+    let shared-slice-known′ = c .before .before .before .before .before .before .before .before .shared-slice-known in
+    let wasteful′ = c .before .before .before .before .before .before .before .wasteful in
+    let if1′ = c .before .before .before .before .before .before .if1 in
+    let p = s .pre in
+    let a = s .args in
+    let st = standing (a .s .now) (a .at) (a .h) (p .1) (λ i. omega (arith, shared-slice-known′ .given i)) (p .0) in
+    (c .reference .ensures .0 (a .strict) (a .s .now) (a .links .now) (a .at) (a .depth) (past-header st (p .3)), λ o x so hold d. c .reference .ensures .1 (a .s .now) o x _ (a .at) (case so (sym (wasteful′ .ensures) ∙ if1′ .left) hold))
 
 name-requires : tie.Need-name-requires
 name-requires c κs =
@@ -51,10 +55,14 @@ name-requires c κs =
 
 returns-4 : tie.Need-returns-4
 returns-4 c =
-    let p = c .before .before .before .before .before .before .before .before .before .before .before .pre in
-    let a = c .before .before .before .before .before .before .before .before .before .before .before .args in
-    let st = standing (a .s .now) (a .at) (a .h) (p .1) (λ i. omega (arith, c .before .before .before .before .before .before .before .before .before .before .shared-slice-known .given i)) (p .0) in
-    (c .name .ensures .0 (a .at) (a .depth) (omega (arith, st .some)), λ o x so hold d. c .name .ensures .1 o x (a .at) so (case so (sym (c .before .before .before .before .before .before .before .before .before .wasteful .ensures) ∙ c .before .before .before .before .before .before .before .before .if1 .left) hold))
+    let s = c .before .before .before .before .before .before .before .before .before .before .before in
+    let shared-slice-known′ = c .before .before .before .before .before .before .before .before .before .before .shared-slice-known in
+    let wasteful′ = c .before .before .before .before .before .before .before .before .before .wasteful in
+    let if1′ = c .before .before .before .before .before .before .before .before .if1 in
+    let p = s .pre in
+    let a = s .args in
+    let st = standing (a .s .now) (a .at) (a .h) (p .1) (λ i. omega (arith, shared-slice-known′ .given i)) (p .0) in
+    (c .name .ensures .0 (a .at) (a .depth) (omega (arith, st .some)), λ o x so hold d. c .name .ensures .1 o x (a .at) so (case so (sym (wasteful′ .ensures) ∙ if1′ .left) hold))
 
 content-requires : tie.Need-content-requires
 content-requires c κs =
@@ -65,41 +73,63 @@ content-requires c κs =
 
 returns-5 : tie.Need-returns-5
 returns-5 c =
-    let p = c .before .before .before .before .before .before .before .before .before .before .pre in
-    let a = c .before .before .before .before .before .before .before .before .before .before .args in
-    let st = standing (a .s .now) (a .at) (a .h) (p .1) (λ i. omega (arith, c .before .before .before .before .before .before .before .before .before .shared-slice-known .given i)) (p .0) in
-    (c .content .ensures .0 (a .strict) (a .entries .now) (a .links .now) (a .at) (a .names) (a .depth) (past-header st (p .3)), λ o x so hold d. c .content .ensures .1 (a .entries .now) o x (a .at) (a .names) (a .keyed) (case so (sym (c .before .before .before .before .before .before .before .before .wasteful .ensures) ∙ c .before .before .before .before .before .before .before .if1 .left) hold))
+    let s = c .before .before .before .before .before .before .before .before .before .before in
+    let shared-slice-known′ = c .before .before .before .before .before .before .before .before .before .shared-slice-known in
+    let wasteful′ = c .before .before .before .before .before .before .before .before .wasteful in
+    let if1′ = c .before .before .before .before .before .before .before .if1 in
+    let p = s .pre in
+    let a = s .args in
+    let st = standing (a .s .now) (a .at) (a .h) (p .1) (λ i. omega (arith, shared-slice-known′ .given i)) (p .0) in
+    (c .content .ensures .0 (a .strict) (a .entries .now) (a .links .now) (a .at) (a .names) (a .depth) (past-header st (p .3)), λ o x so hold d. c .content .ensures .1 (a .entries .now) o x (a .at) (a .names) (a .keyed) (case so (sym (wasteful′ .ensures) ∙ if1′ .left) hold))
 
 container-requires : tie.Need-container-requires
 container-requires c κs = search needs
 
 returns-6 : tie.Need-returns-6
 returns-6 c =
-    let p = c .before .before .before .before .before .before .before .before .before .before .before .pre in
-    let a = c .before .before .before .before .before .before .before .before .before .before .before .args in
-    let st = standing (a .s .now) (a .at) (a .h) (p .1) (λ i. omega (arith, c .before .before .before .before .before .before .before .before .before .before .shared-slice-known .given i)) (p .0) in
-    (c .container .ensures .0 (a .strict) (a .s .now) (a .entries .now) (a .links .now) (a .at) (a .names) (past-header st (p .3)), λ o x so hold d. c .container .ensures .1 (a .s .now) (a .entries .now) o x _ (a .at) (a .names) (a .keyed) (case so (sym (c .before .before .before .before .before .before .before .before .before .wasteful .ensures) ∙ c .before .before .before .before .before .before .before .before .if1 .left) hold) d)
+    let s = c .before .before .before .before .before .before .before .before .before .before .before in
+    let shared-slice-known′ = c .before .before .before .before .before .before .before .before .before .before .shared-slice-known in
+    let wasteful′ = c .before .before .before .before .before .before .before .before .before .wasteful in
+    let if1′ = c .before .before .before .before .before .before .before .before .if1 in
+    let p = s .pre in
+    let a = s .args in
+    let st = standing (a .s .now) (a .at) (a .h) (p .1) (λ i. omega (arith, shared-slice-known′ .given i)) (p .0) in
+    (c .container .ensures .0 (a .strict) (a .s .now) (a .entries .now) (a .links .now) (a .at) (a .names) (past-header st (p .3)), λ o x so hold d. c .container .ensures .1 (a .s .now) (a .entries .now) o x _ (a .at) (a .names) (a .keyed) (case so (sym (wasteful′ .ensures) ∙ if1′ .left) hold) d)
 
 returns-7 : tie.Need-returns-7
 returns-7 c =
-    let p = c .before .before .before .before .before .before .before .before .before .before .before .pre in
-    let a = c .before .before .before .before .before .before .before .before .before .before .before .args in
-    let st = standing (a .s .now) (a .at) (a .h) (p .1) (λ i. omega (arith, c .before .before .before .before .before .before .before .before .before .before .shared-slice-known .given i)) (p .0) in
-    (past-header st (p .3), λ o x so hold d. fixed-value _ (case so (sym (c .before .before .before .before .before .before .before .before .before .wasteful .ensures) ∙ c .before .before .before .before .before .before .before .before .if1 .left) hold) (plain-small _ (is-zero _ (sym (c .before .before .before .before .before .before .is-integer .ensures) ∙ c .before .before .before .before .before .if2 .left) (omega (arith, c .before .before .before .if4 .left, c .before .before .if5 .left, c .before .if6 .left))) (c .if7 .taken)))
+    let s = c .before .before .before .before .before .before .before .before .before .before .before in
+    let shared-slice-known′ = c .before .before .before .before .before .before .before .before .before .before .shared-slice-known in
+    let wasteful′ = c .before .before .before .before .before .before .before .before .before .wasteful in
+    let if1′ = c .before .before .before .before .before .before .before .before .if1 in
+    let is-integer′ = c .before .before .before .before .before .before .is-integer in
+    let if2′ = c .before .before .before .before .before .if2 in
+    let p = s .pre in
+    let a = s .args in
+    let st = standing (a .s .now) (a .at) (a .h) (p .1) (λ i. omega (arith, shared-slice-known′ .given i)) (p .0) in
+    (past-header st (p .3), λ o x so hold d. fixed-value _ (case so (sym (wasteful′ .ensures) ∙ if1′ .left) hold) (plain-small _ (is-zero _ (sym (is-integer′ .ensures) ∙ if2′ .left) (omega (arith, c .before .before .before .if4 .left, c .before .before .if5 .left, c .before .if6 .left))) (c .if7 .taken)))
 
 content-requires-2 : tie.Need-content-requires-2
 content-requires-2 c κs =
-    let p = c .before .before .before .before .before .before .before .before .before .before .before .pre in
-    let a = c .before .before .before .before .before .before .before .before .before .before .before .args in
-    let st = standing (a .s .now) (a .at) (a .h) (p .1) (λ i. omega (arith, c .before .before .before .before .before .before .before .before .before .before .shared-slice-known .given i)) (p .0) in
-    (body-bytes _ (is-zero _ (sym (c .before .before .before .before .before .before .is-integer .ensures) ∙ c .before .before .before .before .before .if2 .left) (omega (arith, c .before .before .before .if4 .left, c .before .before .if5 .left, c .before .if6 .left))) (c .if7 .left), st .inside, p .2)
+    let s = c .before .before .before .before .before .before .before .before .before .before .before in
+    let shared-slice-known′ = c .before .before .before .before .before .before .before .before .before .before .shared-slice-known in
+    let is-integer′ = c .before .before .before .before .before .before .is-integer in
+    let if2′ = c .before .before .before .before .before .if2 in
+    let p = s .pre in
+    let a = s .args in
+    let st = standing (a .s .now) (a .at) (a .h) (p .1) (λ i. omega (arith, shared-slice-known′ .given i)) (p .0) in
+    (body-bytes _ (is-zero _ (sym (is-integer′ .ensures) ∙ if2′ .left) (omega (arith, c .before .before .before .if4 .left, c .before .before .if5 .left, c .before .if6 .left))) (c .if7 .left), st .inside, p .2)
 
 returns-8 : tie.Need-returns-8
 returns-8 c =
-    let p = c .before .before .before .before .before .before .before .before .before .before .before .before .pre in
-    let a = c .before .before .before .before .before .before .before .before .before .before .before .before .args in
-    let st = standing (a .s .now) (a .at) (a .h) (p .1) (λ i. omega (arith, c .before .before .before .before .before .before .before .before .before .before .before .shared-slice-known .given i)) (p .0) in
-    (c .content2 .ensures .0 (a .strict) (a .entries .now) (a .links .now) (a .at) (a .names) (a .depth) (past-header st (p .3)), λ o x so hold d. c .content2 .ensures .1 (a .entries .now) o x (a .at) (a .names) (a .keyed) (case so (sym (c .before .before .before .before .before .before .before .before .before .before .wasteful .ensures) ∙ c .before .before .before .before .before .before .before .before .before .if1 .left) hold))
+    let s = c .before .before .before .before .before .before .before .before .before .before .before .before in
+    let shared-slice-known′ = c .before .before .before .before .before .before .before .before .before .before .before .shared-slice-known in
+    let wasteful′ = c .before .before .before .before .before .before .before .before .before .before .wasteful in
+    let if1′ = c .before .before .before .before .before .before .before .before .before .if1 in
+    let p = s .pre in
+    let a = s .args in
+    let st = standing (a .s .now) (a .at) (a .h) (p .1) (λ i. omega (arith, shared-slice-known′ .given i)) (p .0) in
+    (c .content2 .ensures .0 (a .strict) (a .entries .now) (a .links .now) (a .at) (a .names) (a .depth) (past-header st (p .3)), λ o x so hold d. c .content2 .ensures .1 (a .entries .now) o x (a .at) (a .names) (a .keyed) (case so (sym (wasteful′ .ensures) ∙ if1′ .left) hold))
 
 pub judge-spec : {M : Type 1} → statement M
 judge-spec =

@@ -25,7 +25,9 @@ sub-if2 c = search needs
 
 returns-2 : tie.Need-returns-2
 unfolding isKey
-returns-2 c = (λ at depth l. tt, λ o a at so cs. content-cut cs _ (c .before .of .ensures) _ (c .before .before .before .before .before .before .pre .0 .form) (name-plain (c .before .before .before .before .before .before .pre .0)) (sym (c .before .before .before .key-after-key .ensures) ∙ c .before .before .if1 .left) (c .if2 .taken))
+returns-2 c =
+    let s = c .before .before .before .before .before .before in
+    (λ at depth l. tt, λ o a at so cs. content-cut cs _ (c .before .of .ensures) _ (s .pre .0 .form) (name-plain (s .pre .0)) (sym (c .before .before .before .key-after-key .ensures) ∙ c .before .before .if1 .left) (c .if2 .taken))
 
 add-e : tie.Need-add-e
 add-e c = search needs
@@ -44,19 +46,41 @@ is-utf8-name-requires c κs = search needs
 
 returns-3 : tie.Need-returns-3
 unfolding isKey
-returns-3 c = (λ at depth l. tt, λ o a at so cs. content-text cs _ (c .before .before .before .before .of .ensures) _ (c .before .before .before .before .before .before .before .before .before .pre .0 .form) (name-plain (c .before .before .before .before .before .before .before .before .before .pre .0)) (sym (c .before .before .before .before .before .before .key-after-key .ensures) ∙ c .before .before .before .before .before .if1 .left) (c .before .before .before .if2 .left) (name-text (c .before .before .before .before .before .before .before .before .before .args .s .now) (c .before .before .before .before .before .before .before .before .before .args .next) _ (c .before .before .before .before .before .before .before .before .before .pre .0) (c .before .is-utf8-name .ensures) ∙ c .if3 .taken))
+returns-3 c =
+    let s = c .before .before .before .before .before .before .before .before .before in
+    let key-after-key′ = c .before .before .before .before .before .before .key-after-key in
+    let if1′ = c .before .before .before .before .before .if1 in
+    (λ at depth l. tt, λ o a at so cs. content-text cs _ (c .before .before .before .before .of .ensures) _ (s .pre .0 .form) (name-plain (s .pre .0)) (sym (key-after-key′ .ensures) ∙ if1′ .left) (c .before .before .before .if2 .left) (name-text (s .args .s .now) (s .args .next) _ (s .pre .0) (c .before .is-utf8-name .ensures) ∙ c .if3 .taken))
 
 new-name-requires : tie.Need-new-name-requires
-new-name-requires c κs = (omega (arith, c .before .before .before .before .before .before .before .before .before .before .before .before .pre .0 .high), omega (arith, c .before .before .before .before .before .before .before .before .before .before .before .before .pre .0 .last), omega arith, omega arith, c .before .before .before .before .before .before .before .before .before .before .before .before .pre .2, c .before .before .before .before .before .before .before .before .before .before .before .before .pre .3 .chained (c .before .before .if4 .taken))
+new-name-requires c κs =
+    let s = c .before .before .before .before .before .before .before .before .before .before .before .before in
+    (omega (arith, s .pre .0 .high), omega (arith, s .pre .0 .last), omega arith, omega arith, s .pre .2, s .pre .3 .chained (c .before .before .if4 .taken))
 
 returns-4 : tie.Need-returns-4
-returns-4 c = (λ at depth l. name-moves (c .before .before .before .if4 .taken) at depth (omega arith) (omega arith) (c .new-name .ensures), λ o a at so cs. name-judged (c .before .before .before .before .before .before .before .before .before .before .before .before .before .pre .0) (so ∙ c .before .before .before .if4 .taken) cs _ (c .before .before .before .before .before .before .before .before .of .ensures) (c .before .before .before .before .before .before .before .before .before .before .before .before .before .pre .3 .size) (c .before .before .before .before .before .before .before .before .before .before .before .before .before .pre .3 .few) (sym (c .before .before .before .before .before .before .before .before .before .before .key-after-key .ensures) ∙ c .before .before .before .before .before .before .before .before .before .if1 .left) (c .before .before .before .before .before .before .before .if2 .left) (name-text (c .before .before .before .before .before .before .before .before .before .before .before .before .before .args .s .now) (c .before .before .before .before .before .before .before .before .before .before .before .before .before .args .next) _ (c .before .before .before .before .before .before .before .before .before .before .before .before .before .pre .0) (c .before .before .before .before .before .is-utf8-name .ensures) ∙ c .before .before .before .before .if3 .left) (c .new-name .ensures))
+returns-4 c =
+    let s = c .before .before .before .before .before .before .before .before .before .before .before .before .before in
+    let if4′ = c .before .before .before .if4 in
+    let of′ = c .before .before .before .before .before .before .before .before .of in
+    let key-after-key′ = c .before .before .before .before .before .before .before .before .before .before .key-after-key in
+    let if1′ = c .before .before .before .before .before .before .before .before .before .if1 in
+    let if2′ = c .before .before .before .before .before .before .before .if2 in
+    let is-utf8-name′ = c .before .before .before .before .before .is-utf8-name in
+    (λ at depth l. name-moves (if4′ .taken) at depth (omega arith) (omega arith) (c .new-name .ensures), λ o a at so cs. name-judged (s .pre .0) (so ∙ if4′ .taken) cs _ (of′ .ensures) (s .pre .3 .size) (s .pre .3 .few) (sym (key-after-key′ .ensures) ∙ if1′ .left) (if2′ .left) (name-text (s .args .s .now) (s .args .next) _ (s .pre .0) (is-utf8-name′ .ensures) ∙ c .before .before .before .before .if3 .left) (c .new-name .ensures))
 
 any-name-requires : tie.Need-any-name-requires
-any-name-requires c κs = (omega (arith, c .before .before .before .before .before .before .before .before .before .before .before .pre .0 .high), omega (arith, c .before .before .before .before .before .before .before .before .before .before .before .pre .0 .last), omega arith, omega (arith, c .before .before .before .before .before .before .before .before .before .before .before .pre .2), c .before .before .before .before .before .before .before .before .before .before .before .pre .3 .few)
+any-name-requires c κs =
+    let s = c .before .before .before .before .before .before .before .before .before .before .before in
+    (omega (arith, s .pre .0 .high), omega (arith, s .pre .0 .last), omega arith, omega (arith, s .pre .2), s .pre .3 .few)
 
 returns-5 : tie.Need-returns-5
-returns-5 c = (λ at depth l. name-moves (c .before .before .if4 .left) at depth (omega arith) (omega arith) (c .any-name .ensures (c .before .before .before .before .before .before .before .before .before .before .before .before .args .s .now) (c .before .before .before .before .before .before .before .before .before .before .before .before .args .links .now) (omega arith) (fair-plain (c .before .before .before .before .before .before .before .before .before .before .before .before .pre .3))), λ o a at so cs. name-judged (c .before .before .before .before .before .before .before .before .before .before .before .before .pre .0) (so ∙ c .before .before .if4 .left) cs _ (c .before .before .before .before .before .before .before .of .ensures) (c .before .before .before .before .before .before .before .before .before .before .before .before .pre .3 .size) (c .before .before .before .before .before .before .before .before .before .before .before .before .pre .3 .few) (sym (c .before .before .before .before .before .before .before .before .before .key-after-key .ensures) ∙ c .before .before .before .before .before .before .before .before .if1 .left) (c .before .before .before .before .before .before .if2 .left) (name-text (c .before .before .before .before .before .before .before .before .before .before .before .before .args .s .now) (c .before .before .before .before .before .before .before .before .before .before .before .before .args .next) _ (c .before .before .before .before .before .before .before .before .before .before .before .before .pre .0) (c .before .before .before .before .is-utf8-name .ensures) ∙ c .before .before .before .if3 .left) (c .any-name .ensures (c .before .before .before .before .before .before .before .before .before .before .before .before .args .s .now) (c .before .before .before .before .before .before .before .before .before .before .before .before .args .links .now) (omega arith) (fair-plain (c .before .before .before .before .before .before .before .before .before .before .before .before .pre .3))))
+returns-5 c =
+    let s = c .before .before .before .before .before .before .before .before .before .before .before .before in
+    let of′ = c .before .before .before .before .before .before .before .of in
+    let key-after-key′ = c .before .before .before .before .before .before .before .before .before .key-after-key in
+    let if1′ = c .before .before .before .before .before .before .before .before .if1 in
+    let if2′ = c .before .before .before .before .before .before .if2 in
+    (λ at depth l. name-moves (c .before .before .if4 .left) at depth (omega arith) (omega arith) (c .any-name .ensures (s .args .s .now) (s .args .links .now) (omega arith) (fair-plain (s .pre .3))), λ o a at so cs. name-judged (s .pre .0) (so ∙ c .before .before .if4 .left) cs _ (of′ .ensures) (s .pre .3 .size) (s .pre .3 .few) (sym (key-after-key′ .ensures) ∙ if1′ .left) (if2′ .left) (name-text (s .args .s .now) (s .args .next) _ (s .pre .0) (c .before .before .before .before .is-utf8-name .ensures) ∙ c .before .before .before .if3 .left) (c .any-name .ensures (s .args .s .now) (s .args .links .now) (omega arith) (fair-plain (s .pre .3))))
 
 pub name-spec : {M : Type 1} → statement M
 name-spec =

@@ -15,13 +15,19 @@ enum-known-h : tie.Need-enum-known-h
 enum-known-h c = search needs
 
 judge-requires : tie.Need-judge-requires
-judge-requires c κs = ((rw (c .before .before .before .h .given .1) at (c .before .before .before .before .before .header-at .ensures)), c .before .before .before .before .before .before .before .pre .0, c .before .before .before .before .before .before .before .pre .1, c .before .before .before .before .before .before .before .pre .2)
+judge-requires c κs =
+    let s = c .before .before .before .before .before .before .before in
+    let header-at′ = c .before .before .before .before .before .header-at in
+    ((rw (c .before .before .before .h .given .1) at (header-at′ .ensures)), s .pre .0, s .pre .1, s .pre .2)
 
 returns : tie.Need-returns
 returns c = (tt, λ o a so hold d. cut o a _ (rw (c .enum-told .given .1) at (c .before .before .header-at .ensures)))
 
 returns-2 : tie.Need-returns-2
-returns-2 c = (c .judge .ensures .0, λ o a so hold d. judged-item (c .before .before .before .before .before .before .before .before .args .s .now) _ (c .before .before .before .before .before .before .before .before .args .names) o a _ (c .judge .result) (rw (c .before .before .before .before .h .given .1) at (c .before .before .before .before .before .before .header-at .ensures)) (c .judge .ensures .1 o a so hold d))
+returns-2 c =
+    let s = c .before .before .before .before .before .before .before .before in
+    let header-at′ = c .before .before .before .before .before .before .header-at in
+    (c .judge .ensures .0, λ o a so hold d. judged-item (s .args .s .now) _ (s .args .names) o a _ (c .judge .result) (rw (c .before .before .before .before .h .given .1) at (header-at′ .ensures)) (c .judge .ensures .1 o a so hold d))
 
 pub one-spec : {M : Type 1} → statement M
 one-spec =

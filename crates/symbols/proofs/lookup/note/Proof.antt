@@ -29,7 +29,10 @@ mul-enter-2 : tie.Need-mul-enter-2
 mul-enter-2 c = search needs
 
 add-enter-2 : tie.Need-add-enter-2
-add-enter-2 c = let p = c .before .before .before .before .before .before .before .before .before .before .before .pre .1 in omega (arith, p .near, p .sides, c .before .before .before .before .before .before .before .before .before .before .before .pre .2, key-lt (c .before .before .before .before .before .before .before .before .before .before .before .args .kind) (c .before .before .before .before .before .before .before .before .before .before .before .args .content .now) (p .high) (p .short))
+add-enter-2 c =
+    let s = c .before .before .before .before .before .before .before .before .before .before .before in
+    let p = s .pre .1 in
+    omega (arith, p .near, p .sides, s .pre .2, key-lt (s .args .kind) (s .args .content .now) (p .high) (p .short))
 
 enter-requires : tie.Need-enter-requires
 enter-requires c κs = let p = c .before .before .before .before .before .before .before .before .before .before .before .pre .1 in
@@ -41,7 +44,11 @@ enter-requires c κs = let p = c .before .before .before .before .before .before
     )
 
 returns-2 : tie.Need-returns-2
-returns-2 c = let i = found-some _ (rw (c .before .i .given .1) at (c .before .before .before .find .ensures)) in (i, index-small _ (c .before .before .before .before .before .before .before .before .before .pre .0) (found-some _ (rw (c .before .i .given .1) at (c .before .before .before .find .ensures))), refl, refl)
+returns-2 c =
+    let s = c .before .before .before .before .before .before .before .before .before in
+    let find′ = c .before .before .before .find in
+    let i = found-some _ (rw (c .before .i .given .1) at (find′ .ensures)) in
+    (i, index-small _ (s .pre .0) (found-some _ (rw (c .before .i .given .1) at (find′ .ensures))), refl, refl)
 
 returns-3 : tie.Need-returns-3
 returns-3 c = let p = c .before .before .before .before .before .before .before .before .before .before .before .before .pre .1 in

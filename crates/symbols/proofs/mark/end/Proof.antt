@@ -31,8 +31,10 @@ mix-requires-2 c κs = search needs
 
 returns : tie.Need-returns
 returns c =
-    let a = c .before .before .before .before .before .before .before .before .args in
-    (sym (end-eight (a .h) (a .s .now) (omega arith) ∙ rw (c .mix2 .ensures .0, c .before .number4 .ensures, c .before .before .number3 .ensures, c .before .before .before .mix .ensures .0, c .before .before .before .before .number2 .ensures, c .before .before .before .before .before .number .ensures)), c .mix2 .ensures .1)
+    let s = c .before .before .before .before .before .before .before .before in
+    let number′ = c .before .before .before .before .before .number in
+    let a = s .args in
+    (sym (end-eight (a .h) (a .s .now) (omega arith) ∙ rw (c .mix2 .ensures .0, c .before .number4 .ensures, c .before .before .number3 .ensures, c .before .before .before .mix .ensures .0, c .before .before .before .before .number2 .ensures, number′ .ensures)), c .mix2 .ensures .1)
 
 number-requires-5 : tie.Need-number-requires-5
 number-requires-5 c κs = search needs

@@ -26,13 +26,19 @@ shared-slice-read-b : tie.Need-shared-slice-read-b Inv-loop μ-loop
 shared-slice-read-b c = search needs
 
 mul-p : tie.Need-mul-p Inv-loop μ-loop
-mul-p c = omega (arith, more (c .before .before .loop .p) (getD (c .before .before .before .args .s .now) (c .before .before .before .args .a + c .before .before .loop .i) 0) (c .before .before .loop .i) (c .before .before .loop .inv .2) (omega (arith, c .shared-slice-known .given (c .before .before .before .args .a + c .before .before .loop .i))), most (c .before .before .loop .i) (omega arith))
+mul-p c =
+    let s = c .before .before .before in
+    let loop′ = c .before .before .loop in
+    omega (arith, more (loop′ .p) (getD (s .args .s .now) (s .args .a + loop′ .i) 0) (loop′ .i) (loop′ .inv .2) (omega (arith, c .shared-slice-known .given (s .args .a + loop′ .i))), most (loop′ .i) (omega arith))
 
 cast-p : tie.Need-cast-p Inv-loop μ-loop
 cast-p c = omega (arith, c .shared-slice-known .given (c .before .before .before .args .a + c .before .before .loop .i))
 
 add-p : tie.Need-add-p Inv-loop μ-loop
-add-p c = omega (arith, more (c .before .before .loop .p) (getD (c .before .before .before .args .s .now) (c .before .before .before .args .a + c .before .before .loop .i) 0) (c .before .before .loop .i) (c .before .before .loop .inv .2) (omega (arith, c .shared-slice-known .given (c .before .before .before .args .a + c .before .before .loop .i))), most (c .before .before .loop .i) (omega arith))
+add-p c =
+    let s = c .before .before .before in
+    let loop′ = c .before .before .loop in
+    omega (arith, more (loop′ .p) (getD (s .args .s .now) (s .args .a + loop′ .i) 0) (loop′ .i) (loop′ .inv .2) (omega (arith, c .shared-slice-known .given (s .args .a + loop′ .i))), most (loop′ .i) (omega arith))
 
 add-i : tie.Need-add-i Inv-loop μ-loop
 add-i c = search needs
@@ -41,7 +47,10 @@ loop-less : tie.Need-loop-less Inv-loop μ-loop
 loop-less c = search needs
 
 loop-again : tie.Need-loop-again Inv-loop μ-loop
-loop-again c = (omega arith, ap (λ (x : ℕ). x * 256 + getD (c .before .before .before .args .s .now) (c .before .before .before .args .a + c .before .before .loop .i) 0) (c .before .before .loop .inv .1) ∙ sym (bigEndian-step (c .before .before .before .args .s .now) (c .before .before .before .args .a) (c .before .before .loop .i) (omega arith)), more (c .before .before .loop .p) (getD (c .before .before .before .args .s .now) (c .before .before .before .args .a + c .before .before .loop .i) 0) (c .before .before .loop .i) (c .before .before .loop .inv .2) (omega (arith, c .shared-slice-known .given (c .before .before .before .args .a + c .before .before .loop .i))))
+loop-again c =
+    let s = c .before .before .before in
+    let loop′ = c .before .before .loop in
+    (omega arith, ap (λ (x : ℕ). x * 256 + getD (s .args .s .now) (s .args .a + loop′ .i) 0) (loop′ .inv .1) ∙ sym (bigEndian-step (s .args .s .now) (s .args .a) (loop′ .i) (omega arith)), more (loop′ .p) (getD (s .args .s .now) (s .args .a + loop′ .i) 0) (loop′ .i) (loop′ .inv .2) (omega (arith, c .shared-slice-known .given (s .args .a + loop′ .i))))
 
 returns : tie.Need-returns Inv-loop μ-loop
 returns c = let e : c .before .loop .i ≡ c .before .before .args .n = omega arith in c .before .loop .inv .1 ∙ ap (λ (x : ℕ). bigEndian 0 (take x (drop (c .before .before .args .a) (c .before .before .args .s .now)))) e

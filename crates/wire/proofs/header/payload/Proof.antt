@@ -36,7 +36,9 @@ shr-result : tie.Need-shr-result
 shr-result c = search needs
 
 returns-2 : tie.Need-returns-2
-returns-2 c = ap (λ (x : ℕ). x / 2 ^ (8 * (c .before .span .result - c .before .before .before .before .args .n))) (c .number .ensures) ∙ first-bytes (c .before .before .before .before .args .s .now) (c .before .before .before .before .args .a) (c .before .before .before .before .args .n) (c .before .span .result) (λ i. omega (arith, c .before .before .before .shared-slice-known .given i)) (omega (arith, c .before .span .ensures)) (c .before .span .ensures .0)
+returns-2 c =
+    let s = c .before .before .before .before in
+    ap (λ (x : ℕ). x / 2 ^ (8 * (c .before .span .result - s .args .n))) (c .number .ensures) ∙ first-bytes (s .args .s .now) (s .args .a) (s .args .n) (c .before .span .result) (λ i. omega (arith, c .before .before .before .shared-slice-known .given i)) (omega (arith, c .before .span .ensures)) (c .before .span .ensures .0)
 
 pub payload-spec : {M : Type 1} → statement M
 payload-spec =

@@ -85,18 +85,29 @@ part-put-number-end : tie.Need-part-put-number-end
 part-put-number-end c = search needs
 
 put-number-requires : tie.Need-put-number-requires
-put-number-requires c κs = (omega (arith, c .before .width .ensures, width-holds _ (c .before .before .before .before .before .before .fits .p .fits) .most), long-fits _ _ (c .before .before .before .before .before .before .args .out .now) (c .before .before .before .before .before .before .pre .1) _ (ltb-false _ _ (sym (c .before .before .before .before .is-inline .ensures) ∙ c .before .before .before .if1 .left)) (c .before .width .ensures))
+put-number-requires c κs =
+    let s = c .before .before .before .before .before .before in
+    (omega (arith, c .before .width .ensures, width-holds _ (s .fits .p .fits) .most), long-fits _ _ (s .args .out .now) (s .pre .1) _ (ltb-false _ _ (sym (c .before .before .before .before .is-inline .ensures) ∙ c .before .before .before .if1 .left)) (c .before .width .ensures))
 
 add-result : tie.Need-add-result
 add-result c = omega (arith, c .before .before .put-number .ensures .0, c .before .before .before .before .width .ensures, width-holds _ (c .before .before .before .before .before .before .before .before .before .fits .p .fits) .most)
 
 same-length-3 : tie.Need-same-length-3
-same-length-3 c = put-long _ _ (c .before .before .before .before .before .before .before .before .before .args .out .now) (c .before .before .before .before .before .before .before .before .before .pre .1) _ (ltb-false _ _ (sym (c .before .before .before .before .before .before .before .is-inline .ensures) ∙ c .before .before .before .before .before .before .if1 .left)) (c .before .before .before .before .width .ensures) _ _ (c .before .before .put-number .ensures .0) (c .before .before .put-number .ensures .1) .long
+same-length-3 c =
+    let s = c .before .before .before .before .before .before .before .before .before in
+    let is-inline′ = c .before .before .before .before .before .before .before .is-inline in
+    let if1′ = c .before .before .before .before .before .before .if1 in
+    put-long _ _ (s .args .out .now) (s .pre .1) _ (ltb-false _ _ (sym (is-inline′ .ensures) ∙ if1′ .left)) (c .before .before .before .before .width .ensures) _ _ (c .before .before .put-number .ensures .0) (c .before .before .put-number .ensures .1) .long
 
 returns-3 : tie.Need-returns-3
 returns-3 c =
-    let w = put-long _ _ (c .before .before .before .before .before .before .before .before .before .args .out .now) (c .before .before .before .before .before .before .before .before .before .pre .1) _ (ltb-false _ _ (sym (c .before .before .before .before .before .before .before .is-inline .ensures) ∙ c .before .before .before .before .before .before .if1 .left)) (c .before .before .before .before .width .ensures) _ _ (c .before .before .put-number .ensures .0) (c .before .before .put-number .ensures .1) in
-    finish-all w (omega (arith, c .before .before .put-number .ensures .0, c .before .before .before .before .width .ensures, length-long _ _ (ltb-false _ _ (sym (c .before .before .before .before .before .before .before .is-inline .ensures) ∙ c .before .before .before .before .before .before .if1 .left))))
+    let s = c .before .before .before .before .before .before .before .before .before in
+    let is-inline′ = c .before .before .before .before .before .before .before .is-inline in
+    let if1′ = c .before .before .before .before .before .before .if1 in
+    let width′ = c .before .before .before .before .width in
+    let put-number′ = c .before .before .put-number in
+    let w = put-long _ _ (s .args .out .now) (s .pre .1) _ (ltb-false _ _ (sym (is-inline′ .ensures) ∙ if1′ .left)) (width′ .ensures) _ _ (put-number′ .ensures .0) (put-number′ .ensures .1) in
+    finish-all w (omega (arith, put-number′ .ensures .0, width′ .ensures, length-long _ _ (ltb-false _ _ (sym (is-inline′ .ensures) ∙ if1′ .left))))
 
 pub put-header-spec : {M : Type 1} → statement M
 put-header-spec =

@@ -44,7 +44,11 @@ may-end-requires : tie.Need-may-end-requires
 may-end-requires c κs = search needs
 
 returns-3 : tie.Need-returns-3
-returns-3 c = c .may-end .ensures ∙ sym (c .before .before .before .before .before .before .before .before .starts .ensures ∙ rw (not-false (c .before .before .before .before .before .before .before .before .starts .result) (c .before .before .before .before .before .before .before .if1 .left)) (c .before .before .before .before .before .blocks2 .ensures ∙ rw (not-false (c .before .before .before .before .before .blocks2 .result) (c .before .before .before .before .if2 .left)) (ended _ (omega arith))))
+returns-3 c =
+    let starts′ = c .before .before .before .before .before .before .before .before .starts in
+    let if1′ = c .before .before .before .before .before .before .before .if1 in
+    let blocks2′ = c .before .before .before .before .before .blocks2 in
+    c .may-end .ensures ∙ sym (starts′ .ensures ∙ rw (not-false (starts′ .result) (if1′ .left)) (blocks2′ .ensures ∙ rw (not-false (blocks2′ .result) (c .before .before .before .before .if2 .left)) (ended _ (omega arith))))
 
 pub long-spec : {M : Type 1} → statement M
 long-spec =

@@ -34,8 +34,11 @@ key-of-requires c κs = let p = c .before .before .before .before .pre in
     (w .low, w .high, w .short)
 
 note-requires : tie.Need-note-requires
-note-requires c κs = let p = c .before .before .before .before .before .before .before .pre in
-    (p .2, name-stands (c .before .before .before .before .before .before .before .args .text .now) (c .before .before .before .before .before .before .before .args .row) (p .1 .name) (p .1 .fine) (p .0 .short) (c .before .before .before .before .before .content .ensures), c .before .before .key-of .ensures .0)
+note-requires c κs =
+    let s = c .before .before .before .before .before .before .before in
+    let content′ = c .before .before .before .before .before .content in
+    let p = s .pre in
+    (p .2, name-stands (s .args .text .now) (s .args .row) (p .1 .name) (p .1 .fine) (p .0 .short) (content′ .ensures), c .before .before .key-of .ensures .0)
 
 enum-known-i : tie.Need-enum-known-i
 enum-known-i c = search needs
@@ -72,11 +75,16 @@ returns-2 c = λ xs a.
     (known-next a r (p .1) (p .0) _ (omega (arith, n .1)) (looked-up a r (p .1) (p .0) (c .before .before .before .before .before .before .before .before .before .before .before .content .ensures) (n .0)) (c .known .ensures .0) (c .known .ensures .1))
 
 returns-3 : tie.Need-returns-3
-returns-3 c = λ xs a.
-    let p = c .before .before .before .before .before .before .before .before .before .before .before .before .pre in
+returns-3 c =
+    let s = c .before .before .before .before .before .before .before .before .before .before .before .before in
+    let content′ = c .before .before .before .before .before .before .before .before .before .before .content in
+    let is-utf8′ = c .before .before .before .before .before .before .before .before .before .is-utf8 in
+    let if1′ = c .before .before .before .before .before .before .before .before .if1 in
+    λ xs a.
+    let p = s .pre in
     let n = rw (c .before .before .enum-told .given .1) at (c .before .before .before .before .note .ensures) in
-    let u = ap utf8 (sym (c .before .before .before .before .before .before .before .before .before .before .content .ensures)) ∙ sym (c .before .before .before .before .before .before .before .before .before .is-utf8 .ensures) ∙ not-false (c .before .before .before .before .before .before .before .before .if1 .left) in
-    fresh-next a (c .before .before .before .before .before .before .before .before .before .before .before .before .args .row) (p .1) (p .0) _ _ (c .before .before .before .before .before .before .before .before .before .before .content .ensures) u n (c .fresh .ensures .0) (c .fresh .ensures .1)
+    let u = ap utf8 (sym (content′ .ensures)) ∙ sym (is-utf8′ .ensures) ∙ not-false (if1′ .left) in
+    fresh-next a (s .args .row) (p .1) (p .0) _ _ (content′ .ensures) u n (c .fresh .ensures .0) (c .fresh .ensures .1)
 
 returns-4 : tie.Need-returns-4
 returns-4 c = λ xs a.

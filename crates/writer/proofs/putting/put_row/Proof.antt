@@ -8,13 +8,17 @@ use Rattle.writer.proofs.putting.put_row.Statement.{statement}
 use Rattle.writer.proofs.putting.put_row.Tie as tie
 
 put-fixed-requires : tie.Need-put-fixed-requires
-put-fixed-requires c κs = (c .before .if1 .taken, rw (at-fixed (c .before .before .before .before .args .text .now) (c .before .before .before .before .args .row) (c .before .before .before .before .args .plan .now) (c .before .before .before .before .args .i) (c .before .if1 .taken)) at (c .before .before .before .before .pre .4))
+put-fixed-requires c κs =
+    let s = c .before .before .before .before in
+    (c .before .if1 .taken, rw (at-fixed (s .args .text .now) (s .args .row) (s .args .plan .now) (s .args .i) (c .before .if1 .taken)) at (s .pre .4))
 
 same-length : tie.Need-same-length
 same-length c = search needs
 
 returns : tie.Need-returns
-returns c = rw (at-fixed (c .before .before .before .before .before .before .before .args .text .now) (c .before .before .before .before .before .before .before .args .row) (c .before .before .before .before .before .before .before .args .plan .now) (c .before .before .before .before .before .before .before .args .i) (c .before .before .before .before .if1 .taken)) (c .before .before .put-fixed .ensures)
+returns c =
+    let s = c .before .before .before .before .before .before .before in
+    rw (at-fixed (s .args .text .now) (s .args .row) (s .args .plan .now) (s .args .i) (c .before .before .before .before .if1 .taken)) (c .before .before .put-fixed .ensures)
 
 mul-put-named : tie.Need-mul-put-named
 mul-put-named c = search needs
@@ -26,13 +30,18 @@ content-requires : tie.Need-content-requires
 content-requires c κs = (c .before .before .before .before .before .before .pre .2, c .before .before .before .before .before .before .pre .3, content-text _ (omega (arith, c .before .before .if2 .taken)))
 
 put-named-requires : tie.Need-put-named-requires
-put-named-requires c κs = (omega (arith, kind-most (c .before .before .before .before .before .before .before .args .text .now) (c .before .before .before .before .before .before .before .args .row) (c .before .before .before .before .before .before .before .pre .3)), rw (c .content .ensures) (rw (at-name (c .before .before .before .before .before .before .before .args .text .now) (c .before .before .before .before .before .before .before .args .row) (c .before .before .before .before .before .before .before .args .plan .now) (c .before .before .before .before .before .before .before .args .i) (c .before .before .before .if2 .taken)) at (c .before .before .before .before .before .before .before .pre .4)))
+put-named-requires c κs =
+    let s = c .before .before .before .before .before .before .before in
+    (omega (arith, kind-most (s .args .text .now) (s .args .row) (s .pre .3)), rw (c .content .ensures) (rw (at-name (s .args .text .now) (s .args .row) (s .args .plan .now) (s .args .i) (c .before .before .before .if2 .taken)) at (s .pre .4)))
 
 same-length-2 : tie.Need-same-length-2
 same-length-2 c = search needs
 
 returns-2 : tie.Need-returns-2
-returns-2 c = rw (at-name (c .before .before .before .before .before .before .before .before .before .before .args .text .now) (c .before .before .before .before .before .before .before .before .before .before .args .row) (c .before .before .before .before .before .before .before .before .before .before .args .plan .now) (c .before .before .before .before .before .before .before .before .before .before .args .i) (c .before .before .before .before .before .before .if2 .taken), ← c .before .before .before .content .ensures) (c .before .before .put-named .ensures)
+returns-2 c =
+    let s = c .before .before .before .before .before .before .before .before .before .before in
+    let if2′ = c .before .before .before .before .before .before .if2 in
+    rw (at-name (s .args .text .now) (s .args .row) (s .args .plan .now) (s .args .i) (if2′ .taken), ← c .before .before .before .content .ensures) (c .before .before .put-named .ensures)
 
 has-content-requires : tie.Need-has-content-requires
 has-content-requires c κs = search needs
@@ -41,22 +50,36 @@ content-requires-2 : tie.Need-content-requires-2
 content-requires-2 c κs = (c .before .before .before .before .before .before .before .pre .2, c .before .before .before .before .before .before .before .pre .3, sym (c .before .before .has-content .ensures) ∙ c .before .if3 .taken)
 
 put-sized-requires : tie.Need-put-sized-requires
-put-sized-requires c κs = (omega arith, rw (c .content2 .ensures) (rw (at-header (c .before .before .before .before .before .before .before .before .args .text .now) (c .before .before .before .before .before .before .before .before .args .row) (c .before .before .before .before .before .before .before .before .args .plan .now) (c .before .before .before .before .before .before .before .before .args .i) (c .before .before .before .before .before .if1 .left) (c .before .before .before .before .if2 .left)) at (c .before .before .before .before .before .before .before .before .pre .4)))
+put-sized-requires c κs =
+    let s = c .before .before .before .before .before .before .before .before in
+    let if1′ = c .before .before .before .before .before .if1 in
+    (omega arith, rw (c .content2 .ensures) (rw (at-header (s .args .text .now) (s .args .row) (s .args .plan .now) (s .args .i) (if1′ .left) (c .before .before .before .before .if2 .left)) at (s .pre .4)))
 
 same-length-3 : tie.Need-same-length-3
 same-length-3 c = search needs
 
 returns-3 : tie.Need-returns-3
-returns-3 c = rw (at-header (c .before .before .before .before .before .before .before .before .before .before .before .args .text .now) (c .before .before .before .before .before .before .before .before .before .before .before .args .row) (c .before .before .before .before .before .before .before .before .before .before .before .args .plan .now) (c .before .before .before .before .before .before .before .before .before .before .before .args .i) (c .before .before .before .before .before .before .before .before .if1 .left) (c .before .before .before .before .before .before .before .if2 .left), ← c .before .before .before .content2 .ensures) (c .before .before .put-sized .ensures)
+returns-3 c =
+    let s = c .before .before .before .before .before .before .before .before .before .before .before in
+    let if1′ = c .before .before .before .before .before .before .before .before .if1 in
+    let if2′ = c .before .before .before .before .before .before .before .if2 in
+    rw (at-header (s .args .text .now) (s .args .row) (s .args .plan .now) (s .args .i) (if1′ .left) (if2′ .left), ← c .before .before .before .content2 .ensures) (c .before .before .put-sized .ensures)
 
 put-header-requires : tie.Need-put-header-requires
-put-header-requires c κs = (omega arith, rw (at-plain (c .before .before .before .before .before .before .before .args .text .now) (c .before .before .before .before .before .before .before .args .row) (c .before .before .before .before .before .before .before .args .plan .now) (c .before .before .before .before .before .before .before .args .i) (c .before .before .before .before .if1 .left) (c .before .before .before .if2 .left) (sym (c .before .before .has-content .ensures) ∙ c .before .if3 .left)) at (c .before .before .before .before .before .before .before .pre .4))
+put-header-requires c κs =
+    let s = c .before .before .before .before .before .before .before in
+    (omega arith, rw (at-plain (s .args .text .now) (s .args .row) (s .args .plan .now) (s .args .i) (c .before .before .before .before .if1 .left) (c .before .before .before .if2 .left) (sym (c .before .before .has-content .ensures) ∙ c .before .if3 .left)) at (s .pre .4))
 
 same-length-4 : tie.Need-same-length-4
 same-length-4 c = search needs
 
 returns-4 : tie.Need-returns-4
-returns-4 c = rw (at-plain (c .before .before .before .before .before .before .before .before .before .before .args .text .now) (c .before .before .before .before .before .before .before .before .before .before .args .row) (c .before .before .before .before .before .before .before .before .before .before .args .plan .now) (c .before .before .before .before .before .before .before .before .before .before .args .i) (c .before .before .before .before .before .before .before .if1 .left) (c .before .before .before .before .before .before .if2 .left) (sym (c .before .before .before .before .before .has-content .ensures) ∙ c .before .before .before .before .if3 .left)) (c .before .before .put-header .ensures)
+returns-4 c =
+    let s = c .before .before .before .before .before .before .before .before .before .before in
+    let if1′ = c .before .before .before .before .before .before .before .if1 in
+    let if2′ = c .before .before .before .before .before .before .if2 in
+    let has-content′ = c .before .before .before .before .before .has-content in
+    rw (at-plain (s .args .text .now) (s .args .row) (s .args .plan .now) (s .args .i) (if1′ .left) (if2′ .left) (sym (has-content′ .ensures) ∙ c .before .before .before .before .if3 .left)) (c .before .before .put-header .ensures)
 
 pub put-row-spec : {M : Type 1} → statement M
 put-row-spec =

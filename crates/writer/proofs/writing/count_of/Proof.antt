@@ -2,8 +2,9 @@
 use mathlib.Core.Path.{sym, ap}
 use borrow.Author.Needs.{needs}
 use Rattle.format.specs.Answer.{fail}
-use Rattle.writer.specs.declared.writing.Written.{Written}
-use Rattle.writer.specs.Answers.{answerOf, rowsIn}
+use Rattle.format.specs.declared.written.Written.{Written}
+use Rattle.format.specs.Written.{answerOf}
+use Rattle.writer.specs.Extent.{rowsIn}
 use Rattle.writer.proofs.writing.count_of.Statement.{statement}
 use Rattle.writer.proofs.writing.count_of.Tie as tie
 

@@ -30,18 +30,28 @@ returns-4 c =
 
 returns-5 : tie.Need-returns-5
 returns-5 c =
+    let if1′ = c .before .before .before .before .before .before .before .if1 in
+    let if2′ = c .before .before .before .before .before .before .if2 in
     λ rs bs plan er eb v.
-    answer-over rs bs plan _ _ _ _ er eb v (c .before .before .before .before .before .before .before .if1 .left) (c .before .before .before .before .before .before .if2 .left) (c .before .before .before .before .if3 .left) (sym (c .before .before .before .is-due .ensures) ∙ c .before .before .if4 .left) (omega (arith, c .if5 .taken))
+    answer-over rs bs plan _ _ _ _ er eb v (if1′ .left) (if2′ .left) (c .before .before .before .before .if3 .left) (sym (c .before .before .before .is-due .ensures) ∙ c .before .before .if4 .left) (omega (arith, c .if5 .taken))
 
 returns-6 : tie.Need-returns-6
 returns-6 c =
+    let if1′ = c .before .before .before .before .before .before .before .before .before .if1 in
+    let if2′ = c .before .before .before .before .before .before .before .before .if2 in
+    let if3′ = c .before .before .before .before .before .before .if3 in
+    let is-due′ = c .before .before .before .before .before .is-due in
     λ rs bs plan er eb v.
-    answer-over rs bs plan _ _ _ _ er eb v (c .before .before .before .before .before .before .before .before .before .if1 .left) (c .before .before .before .before .before .before .before .before .if2 .left) (c .before .before .before .before .before .before .if3 .left) (sym (c .before .before .before .before .before .is-due .ensures) ∙ c .before .before .before .before .if4 .left) (omega (arith, c .if6 .taken))
+    answer-over rs bs plan _ _ _ _ er eb v (if1′ .left) (if2′ .left) (if3′ .left) (sym (is-due′ .ensures) ∙ c .before .before .before .before .if4 .left) (omega (arith, c .if6 .taken))
 
 returns-7 : tie.Need-returns-7
 returns-7 c =
+    let if1′ = c .before .before .before .before .before .before .before .before .before .if1 in
+    let if2′ = c .before .before .before .before .before .before .before .before .if2 in
+    let if3′ = c .before .before .before .before .before .before .if3 in
+    let is-due′ = c .before .before .before .before .before .is-due in
     λ rs bs plan er eb v.
-    answer-good rs bs plan _ _ _ _ er eb v (c .before .before .before .before .before .before .before .before .before .if1 .left) (c .before .before .before .before .before .before .before .before .if2 .left) (c .before .before .before .before .before .before .if3 .left) (sym (c .before .before .before .before .before .is-due .ensures) ∙ c .before .before .before .before .if4 .left) (omega (arith, c .before .before .if5 .left, c .if6 .left))
+    answer-good rs bs plan _ _ _ _ er eb v (if1′ .left) (if2′ .left) (if3′ .left) (sym (is-due′ .ensures) ∙ c .before .before .before .before .if4 .left) (omega (arith, c .before .before .if5 .left, c .if6 .left))
 
 pub decide-spec : {M : Type 1} → statement M
 decide-spec =
