@@ -1,0 +1,17 @@
+// The envelope around a bundle: opened as a part of the bytes, closed into a buffer.
+mod closing;
+mod opening;
+
+pub use closing::close;
+pub use opening::Outcome;
+pub use opening::missing;
+pub use opening::open;
+pub use opening::open_error;
+
+pub const VERSION: u8 = 1;
+
+// The bytes before the bundle.
+pub const OVERHEAD: usize = 3;
+
+// The longest envelope.
+pub const MAX_BYTES: usize = 16387;
