@@ -22,7 +22,7 @@ use Rattle.format.proofs.Laws.{rewriting-law}
 use Rattle.reader.specs.declared.checking.Checked.{Checked}
 use Rattle.reader.specs.declared.checking.Checked.the-variants.{Failed, Good}
 use Rattle.reader.specs.Answers.{answerOf}
-use Rattle.writer.specs.declared.writing.Written.the-variants.{Done}
+use Rattle.format.specs.declared.written.Written.the-variants.{Done}
 use Rattle.reader.specs.Promises.{Read}
 use Rattle.writer.specs.Promises.{Wrote}
 use Rattle.nachricht.specs.Laws.{RewritesCanonically, WrittenReadsBack}

@@ -16,9 +16,9 @@ use Rattle.format.specs.Writing.{fitted}
 use Rattle.reader.specs.declared.checking.Checked.{Checked}
 use Rattle.reader.specs.declared.checking.Checked.the-variants.{Good}
 use Rattle.reader.specs.Promises.{Read}
-use Rattle.writer.specs.declared.writing.Written.{Written}
-use Rattle.writer.specs.declared.writing.Written.the-variants.{Done}
-use Rattle.writer.specs.Answers as writer
+use Rattle.format.specs.declared.written.Written.{Written}
+use Rattle.format.specs.declared.written.Written.the-variants.{Done}
+use Rattle.format.specs.Written as written
 use Rattle.writer.specs.Promises.{Wrote}
 
 -- A row's number is a word, which its type `u64` says, as `u8` says that text is bytes.
@@ -53,7 +53,7 @@ pub record Rewritten (mode : Mode) (bytes : List ℕ) (table : List Row) (old : 
   pub xs : List Item
   pub meant : items (options mode (length table)) bytes ≡ good xs
   -- the answer is the encoding's length, or error 10 where that is over the limit or the buffer
-  pub answer : writer.answerOf w ≡ counted (fitted (length old) (canonical xs))
+  pub answer : written.answerOf w ≡ counted (fitted (length old) (canonical xs))
   -- the encoding stands first in the buffer, and the rest stays as it was; on an error all of it
   pub buffer : new ≡ stored old (fitted (length old) (canonical xs))
 

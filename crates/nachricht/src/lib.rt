@@ -7,17 +7,18 @@ ghost use Rattle.format.specs.Limits.{max-rows};
 ghost use Rattle.format.specs.Reading.{options, counts, lenient};
 ghost use Rattle.format.specs.Rows as table;
 ghost use Rattle.format.specs.Writing.{writing};
+ghost use Rattle.format.specs.Written as written;
 ghost use Rattle.format.specs.Joining.{canonicalizing, joining};
+ghost use Rattle.format.specs.Envelope.{closing, opening};
 ghost use Rattle.reader.specs.Answers.{answerOf};
-ghost use Rattle.writer.specs.Answers as writer;
 ghost use Rattle.joiner.specs.Answers as joiner;
 ghost use Rattle.nachricht.specs.Answers.{modeOf, failedAnswer, countsAnswer, countAnswer};
 use format::Error;
 use format::Mode;
 use format::Row;
+use format::Written;
 use joiner::Joined;
 use reader::Checked;
-use writer::Written;
 
 // An answer: the error's number or 0, its place and side, and the counts.
 #[repr(C)]
@@ -83,7 +84,7 @@ fn done(n: usize) -> Answer
 }
 
 fn written_of(r: Written) -> Answer
-    ensures { λ a. ⌜ a ≡ countAnswer (writer.answerOf r) ⌝ }
+    ensures { λ a. ⌜ a ≡ countAnswer (written.answerOf r) ⌝ }
 {
     match r {
         Written::Failed(e, p) => failed(e, p, 0),
@@ -142,4 +143,30 @@ pub extern "C" fn nachricht_join<'a>(first: &'a [u8], second: &'a [u8], out: &mu
     ensures buffer { λ _. ⌜ now (out .exit) ≡ stored (now (out .entry)) (joining lenient (now (first .entry)) (now (second .entry)) (length (now (out .entry)))) ⌝ }
 {
     joined_of(joiner::join(first, second, out))
+}
+
+// Opens an envelope: the bundle's length. It begins after the length and the version, at offset 3.
+#[no_mangle]
+pub extern "C" fn nachricht_open(envelope: &[u8]) -> Answer
+    ensures { λ r. ⌜ r ≡ countAnswer (counted (opening (now (envelope .entry)))) ⌝ }
+{
+    let outcome = envelope::open_error(envelope);
+    let bundle = envelope::open(envelope);
+    Answer {
+        error: outcome.error as u64,
+        place: outcome.place as u64,
+        side: 0,
+        count: bundle.len() as u64,
+        entries: 0,
+        fields: 0,
+    }
+}
+
+// Writes the envelope of a bundle.
+#[no_mangle]
+pub extern "C" fn nachricht_close(bundle: &[u8], out: &mut [u8]) -> Answer
+    ensures answer { λ r. ⌜ r ≡ countAnswer (counted (closing (now (bundle .entry)) (length (now (out .entry))))) ⌝ }
+    ensures buffer { λ _. ⌜ now (out .exit) ≡ stored (now (out .entry)) (closing (now (bundle .entry)) (length (now (out .entry)))) ⌝ }
+{
+    written_of(envelope::close(bundle, out))
 }

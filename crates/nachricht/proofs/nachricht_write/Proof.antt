@@ -42,11 +42,11 @@ use Rattle.format.specs.Answer.{counted, stored}
 use Rattle.format.specs.Writing.{writing}
 use Rattle.format.proofs.row.Row as T
 use Rattle.format.proofs.WalkCall.{says-both, asks-one, calls-plain}
-use Rattle.writer.specs.declared.writing.Written.{Written}
-use Rattle.writer.specs.Answers.{answerOf}
+use Rattle.format.specs.declared.written.Written.{Written}
+use Rattle.format.specs.Written.{answerOf}
 use Rattle.writer.specs.Promises.{Wrote}
-use Rattle.writer.proofs.writing.Written as N
-use Rattle.writer.proofs.writing.Written.Laws as N′
+use Rattle.format.proofs.written.Written as N
+use Rattle.format.proofs.written.Written.Laws as N′
 use Rattle.writer.proofs.write as write
 use Rattle.writer.proofs.write.Symbol as write-def
 use Rattle.writer.proofs.write.Symbol.{name as #write}

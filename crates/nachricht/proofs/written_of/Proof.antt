@@ -1,8 +1,8 @@
 -- `nachricht::written_of` meets its contract: the answer of each case of `Written`. Assumes nothing.
 use mathlib.Core.Path.{sym, ap, _∙_}
 use Rattle.format.specs.Answer.{fail}
-use Rattle.writer.specs.declared.writing.Written.{Written}
-use Rattle.writer.specs.Answers.{answerOf}
+use Rattle.format.specs.declared.written.Written.{Written}
+use Rattle.format.specs.Written.{answerOf}
 use Rattle.nachricht.specs.Answers.{countAnswer}
 use borrow.Author.Needs.{needs}
 use Rattle.nachricht.proofs.written_of.Statement.{statement}
