@@ -1,0 +1,2 @@
+-- What holds of the window over standard input.
+pub mod Window
