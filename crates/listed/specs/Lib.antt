@@ -1,0 +1,4 @@
+-- What `listing` prints.
+pub mod Text
+pub mod Promises
+pub mod Examples

@@ -1,0 +1,106 @@
+-- The text of `listing` (document 01, "Envelope and programs"), in ASCII: what is printed for one envelope.
+use Prim.Native.Nat.{ℕ, zero, suc, _+_, _/_, _%_}
+use mathlib.Core.List.{List, [], _∷_, _++_, flatten}
+use lib.Dec.{ltb}
+use Rattle.format.specs.declared.bundle.Bundle.{Bundle}
+use Rattle.format.specs.declared.row.Row.{Row}
+use Rattle.format.specs.Choice.{pick}
+use Rattle.format.specs.Answer.{Answer, failed, good}
+use Rattle.format.specs.Reading.{counts, lenient}
+use Rattle.format.specs.Rows.{rows}
+
+-- ---- numbers
+
+-- n in decimal, in at most so many digits
+unfoldable pub decimalIn : ℕ → ℕ → List ℕ
+decimalIn zero n = []
+decimalIn (suc k) n = let front = decimalIn k (n / 10) in pick (ltb n 10) ((48 + n) ∷ []) (front ++ ((48 + n % 10) ∷ []))
+
+-- A number of 64 bits has at most 20 digits.
+unfoldable pub decimal : ℕ → List ℕ
+decimal n = decimalIn 20 n
+
+-- ---- words
+
+abbrev pub space : ℕ
+space = 32
+
+abbrev pub newline : ℕ
+newline = 10
+
+-- `bundle `
+abbrev pub bundle-word : List ℕ
+bundle-word = 98 ∷ 117 ∷ 110 ∷ 100 ∷ 108 ∷ 101 ∷ space ∷ []
+
+-- `envelope `
+abbrev pub envelope-word : List ℕ
+envelope-word = 101 ∷ 110 ∷ 118 ∷ 101 ∷ 108 ∷ 111 ∷ 112 ∷ 101 ∷ space ∷ []
+
+-- ` rows `
+abbrev pub rows-word : List ℕ
+rows-word = space ∷ 114 ∷ 111 ∷ 119 ∷ 115 ∷ space ∷ []
+
+-- ` names `
+abbrev pub names-word : List ℕ
+names-word = space ∷ 110 ∷ 97 ∷ 109 ∷ 101 ∷ 115 ∷ space ∷ []
+
+-- ` refused `
+abbrev pub refused-word : List ℕ
+refused-word = space ∷ 114 ∷ 101 ∷ 102 ∷ 117 ∷ 115 ∷ 101 ∷ 100 ∷ space ∷ []
+
+-- ` at `
+abbrev pub at-word : List ℕ
+at-word = space ∷ 97 ∷ 116 ∷ space ∷ []
+
+-- a word and a number
+unfoldable pub labelled : List ℕ → ℕ → List ℕ
+labelled word n = flatten (word ∷ decimal n ∷ [])
+
+-- a number and the byte after it
+unfoldable pub ended : ℕ → ℕ → List ℕ
+ended n end = flatten (decimal n ∷ (end ∷ []) ∷ [])
+
+-- ---- lines
+
+-- `bundle K`, and two words, each with its number
+unfoldable pub bundleLine : ℕ → List ℕ → ℕ → List ℕ → ℕ → List ℕ
+bundleLine k word n other m = flatten (labelled bundle-word k ∷ labelled word n ∷ labelled other m ∷ (newline ∷ []) ∷ [])
+
+-- `bundle K rows R names N`, or `bundle K refused X at P`
+unfoldable pub firstLine : ℕ → Answer Bundle → List ℕ
+firstLine k (good b) = bundleLine k rows-word (b .rows) names-word (b .entries)
+firstLine k (failed r) = bundleLine k refused-word (r .code) at-word (r .place)
+
+-- a row: its index, kind, number and start
+unfoldable pub rowLine : ℕ → Row → List ℕ
+rowLine i r = flatten (ended i space ∷ ended (r .kind) space ∷ ended (r .number) space ∷ ended (r .start) newline ∷ [])
+
+-- the lines of rows, the first of which has index i
+unfoldable pub rowLines : ℕ → List Row → List (List ℕ)
+rowLines i [] = []
+rowLines i (r ∷ rs) = rowLine i r ∷ rowLines (suc i) rs
+
+-- the rows that are printed; none of a bundle that is refused
+unfoldable pub rowsOf : Answer (List Row) → List Row
+rowsOf (good rs) = rs
+rowsOf (failed r) = []
+
+-- ---- what is printed
+
+-- for the bundle of envelope k
+unfoldable pub text : ℕ → List ℕ → List ℕ
+text k bs = flatten (firstLine k (counts lenient bs) ∷ rowLines 0 (rowsOf (rows lenient bs)))
+
+-- for envelope k, refused with a number: `envelope K refused X`
+unfoldable pub envelopeText : ℕ → ℕ → List ℕ
+envelopeText k x = flatten (labelled envelope-word k ∷ labelled refused-word x ∷ (newline ∷ []) ∷ [])
+
+-- ---- what is written into a buffer
+
+-- No text is longer: numbers of 20 digits in the first line and in four columns of 1,024 rows.
+abbrev pub max-text : ℕ
+max-text = 86097
+
+-- Of a buffer with so many bytes: a text is written where any would fit, and else nothing.
+unfoldable pub within : ℕ → List ℕ → List ℕ
+within capacity bs = pick (ltb capacity max-text) [] bs

@@ -1,0 +1,57 @@
+// The text for one envelope, at the start of a buffer.
+ghost use mathlib.Core.Path.{_≡_};
+ghost use lib.ListN.{length};
+ghost use Rattle.reader.specs.Answers.{answerOf, rowsIn};
+ghost use Rattle.listed.specs.Text.{text, envelopeText, within};
+ghost use Rattle.listed.specs.Promises.{Puts};
+use crate::line::put_envelope;
+use crate::line::put_first;
+use crate::line::put_row;
+use crate::table::Table;
+use reader::Checked;
+
+pub struct Text;
+
+impl Text {
+    // A buffer with so many bytes takes any text.
+    pub const MAX_LEN: usize = 86097;
+}
+
+// How many rows are printed.
+fn row_count(answer: Checked) -> usize
+    ensures { λ r. ⌜ r ≡ rowsIn (answerOf answer) ⌝ }
+{
+    match answer {
+        Checked::Good(b) => b.rows,
+        Checked::Failed(_, _) => 0,
+    }
+}
+
+// The text for the bundle of envelope k, and how long it is; 0, and no byte changed, where the buffer is shorter than `Text::MAX_LEN`.
+pub fn put_bundle(k: u64, bundle: &[u8], out: &mut [u8]) -> usize
+    ensures { λ r. ⌜ Puts (within (length (now (out .entry))) (text k (now (bundle .entry)))) r (now (out .entry)) (now (out .exit)) ⌝ }
+{
+    if out.len() < Text::MAX_LEN {
+        return 0;
+    }
+    let t = Table::read(bundle);
+    let answer = t.answer;
+    let mut at = put_first(k, answer, out);
+    let n = row_count(answer);
+    let mut i = 0;
+    while i < n {
+        at += put_row(i as u64, t.rows[i], &mut out[at..]);
+        i += 1;
+    }
+    at
+}
+
+// The same for envelope k where it is refused with a number.
+pub fn put_envelope_error(k: u64, number: u8, out: &mut [u8]) -> usize
+    ensures { λ r. ⌜ Puts (within (length (now (out .entry))) (envelopeText k number)) r (now (out .entry)) (now (out .exit)) ⌝ }
+{
+    if out.len() < Text::MAX_LEN {
+        return 0;
+    }
+    put_envelope(k, number, out)
+}

@@ -1,0 +1,2 @@
+-- What `listing` prints for one envelope.
+pub mod Printed
