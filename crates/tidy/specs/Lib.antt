@@ -1,0 +1,2 @@
+-- What `tidy` makes of one envelope.
+pub mod Tidied
