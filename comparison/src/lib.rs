@@ -3,11 +3,16 @@
 pub mod buffer;
 mod canonicalize;
 pub mod cases;
+pub mod envelope;
 pub mod inputs;
 pub mod items;
 mod join;
+mod pipe;
+pub mod program;
 mod read;
 mod row;
+pub mod run;
+pub mod streams;
 mod tally;
 mod write;
 

@@ -11,6 +11,10 @@ const STRICT: [u64; 10] = [0, 1, 2, 3, 4, 5, 6, 7, 8, 11];
 const WRITING: [u64; 10] = [0, 1, 2, 3, 5, 6, 7, 8, 9, 10];
 const CANONICALIZING: [u64; 10] = [0, 1, 2, 3, 4, 5, 6, 7, 8, 10];
 
+/// What opening and closing can answer.
+const OPENING: [u64; 3] = [0, 12, 13];
+const CLOSING: [u64; 3] = [0, 1, 10];
+
 /// What joining can answer for both bundles together, and for each of them.
 const TOGETHER: [u64; 4] = [0, 7, 8, 10];
 const EACH: [u64; 8] = [1, 2, 3, 4, 5, 6, 7, 8];
@@ -40,6 +44,14 @@ impl Tally {
 
     pub fn of_joining() -> Tally {
         Tally::expecting(&[&TOGETHER, &EACH, &EACH])
+    }
+
+    pub fn of_opening() -> Tally {
+        Tally::expecting(&[&OPENING])
+    }
+
+    pub fn of_closing() -> Tally {
+        Tally::expecting(&[&CLOSING])
     }
 
     /// Expects these error numbers for side 0, side 1 and so on.
