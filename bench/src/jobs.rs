@@ -1,0 +1,40 @@
+//! Lines of a job board: containers of seven keys with values.
+
+use crate::random::Random;
+use nachricht::Builder;
+
+const TITLES: [&str; 8] = [
+    "Gärtner",
+    "Carpenter",
+    "Köchin",
+    "Night porter",
+    "Bus driver",
+    "Schreinermeisterin",
+    "Nurse, part time",
+    "Teacher of Latin and mathematics",
+];
+
+const CITIES: [&str; 8] = [
+    "Aachen", "Berlin", "Erfurt", "Jena", "Köln", "Lübeck", "München", "Ulm",
+];
+
+/// A board of so many lines.
+pub fn board(lines: usize, random: &mut Random) -> Builder {
+    let mut board = Builder::new();
+    for _ in 0..lines {
+        line(&mut board, random);
+    }
+    board
+}
+
+/// Adds a line, which has 15 items.
+fn line(board: &mut Builder, random: &mut Random) {
+    board.container(7);
+    board.key("id").integer(random.below(1 << 24));
+    board.key("title").string(random.choice(&TITLES));
+    board.key("city").symbol(random.choice(&CITIES));
+    board.key("hours").integer(8 + random.below(33));
+    board.key("pay").integer(1_500 + random.below(6_000));
+    board.key("remote").boolean(random.below(2) == 0);
+    board.key("days ago").integer(random.below(60));
+}
