@@ -12,7 +12,8 @@ use Rattle.format.specs.Canonical.{full}
 use Rattle.format.proofs.Tests.{ltb-yes, ltb-no, pick-yes, pick-no}
 use Rattle.format.proofs.Numbers.{length-digits}
 use Rattle.wire.proofs.Wrote.{Wrote, start, byte-as, finish-all, byte-fits, byte-then, tail}
-use Rattle.encoder.specs.Output.{Puts, PutsAt}
+use Rattle.wire.specs.Output.{Puts}
+use Rattle.encoder.specs.Output.{PutsAt}
 use Rattle.encoder.specs.Plan.{referring}
 use Rattle.encoder.proofs.Lengths.{full-fixed, length-fixed}
 

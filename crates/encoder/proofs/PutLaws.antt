@@ -13,7 +13,8 @@ use Rattle.format.specs.Canonical.{canonical, canonicalFrom, encoded, full, nam
 use Rattle.format.proofs.Tests.{cases, ltb-no, ltb-yes, pick-no, pick-yes}
 use Rattle.format.proofs.Encoding.{at-lt}
 use Rattle.format.proofs.Names.{canonical-append, index-at, names-append, names-longer}
-use Rattle.encoder.specs.Output.{Puts, PutsAt}
+use Rattle.wire.specs.Output.{Puts}
+use Rattle.encoder.specs.Output.{PutsAt}
 use Rattle.encoder.specs.Plan.{Planned, encodedAt, referring, referTo}
 use Rattle.encoder.proofs.MeasureLaws.{canonical-more}
 

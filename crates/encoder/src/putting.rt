@@ -4,7 +4,7 @@ ghost use Prim.Native.Nat.{_≤_, _<_};
 ghost use lib.ListN.{length};
 ghost use Rattle.format.specs.Canonical.{full};
 ghost use Rattle.format.specs.Header.{header};
-ghost use Rattle.encoder.specs.Output.{Puts};
+ghost use Rattle.wire.specs.Output.{Puts};
 ghost use Rattle.encoder.specs.Plan.{referring};
 use wire::output::copy;
 use wire::output::put_header;

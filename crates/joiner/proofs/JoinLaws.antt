@@ -49,7 +49,9 @@ pub record Reads (bs : List ℕ) (rows : ℕ) : Type 0 where
 
 pub reads : (bs : List ℕ) {b : Bundle} → good b ≡ counts lenient bs → Reads bs (b .rows)
 unfolding counts countsOf
-reads bs e = let (u, p, q) = then-good (reading lenient bs) _ (sym e) in record { u = u; is = p; count = sym (ap (λ (c : Bundle). c .rows) (good-inj q)) }
+reads bs e =
+    let (u, p, q) = then-good (reading lenient bs) _ (sym e) in
+    record { u = u; is = p; count = sym (ap (λ (c : Bundle). c .rows) (good-inj q)) }
 
 pub reads-few : {bs : List ℕ} {rows : ℕ} → Reads bs rows → rows ≤ 1024
 unfolding start

@@ -80,7 +80,9 @@ of-two {old = old} {r = r} p q j =
       untouched = λ x. failed-with j x .1 .1;
       rows-first = λ l. same r (Failed TooManyRows 0 0) (fails j (d .rows-first l) .0);
       names-next = λ m l. same r (Failed TooManyEntries 0 0) (fails j (d .names-next m l) .0);
-      size-last = λ m n x. let (f, k) = failed-with j x in same r (Failed OutputTooLong 0 0) (fails j (k .0 ∙ ap failed (d .size-last m n (k .0))) .0);
+      size-last = λ m n x.
+          let (f, k) = failed-with j x in
+          same r (Failed OutputTooLong 0 0) (fails j (k .0 ∙ ap failed (d .size-last m n (k .0))) .0);
     }
 
 way-count : {a b c new : List ℕ} {n : ℕ} → Way a b c n new → length (take n new) ≡ n
@@ -108,5 +110,7 @@ demand-3 =
       empty-second = λ {old = old} p j. yields j (definition.demand-3 .empty (length old) p .second);
       three = of-three;
       unread-first = λ e j. let (p, q) = fails j (definition.demand-3 .unread _ _ _ .first _ e) in record { answer = p; untouched = q };
-      unread-second = λ d e j. let (p, q) = fails j (definition.demand-3 .unread _ _ _ .second _ _ d e) in record { answer = p; untouched = q };
+      unread-second = λ d e j.
+          let (p, q) = fails j (definition.demand-3 .unread _ _ _ .second _ _ d e) in
+          record { answer = p; untouched = q };
     }

@@ -5,7 +5,7 @@ use mathlib.Core.List.{List, [], _++_, append-nil}
 use Prim.Native.Nat.{ℕ, _+_, _≤_, _<_, min, zero-le}
 use native.Mathlib.Omega.{arith}
 use lib.Dec.{ltb}
-use lib.ListN.{length, replicate, length-append, length-replicate}
+use lib.ListN.{length, replicate, length-append}
 use Rattle.format.specs.declared.error.Error.the-variants.{OutputTooLong, TooManyEntries, TooManyRows}
 use Rattle.format.specs.Limits.{max-bytes}
 use Rattle.format.specs.Answer.{counted, fail, good, onSide, stored, then}
@@ -22,13 +22,19 @@ use Rattle.format.proofs.Joins.{together-fits, together-names, together-rows, t
 use Rattle.symbols.proofs.EntryLaws.{side-first, side-second}
 use Rattle.symbols.proofs.ChainLaws.{length-names}
 use Rattle.encoder.proofs.MeasureLaws.{measured-none}
-use Rattle.joiner.specs.declared.measuring.Tally.{Tally}
+use Rattle.rewriter.specs.declared.measuring.Tally.{Tally}
 use Rattle.joiner.specs.declared.merging.Joined.the-variants.{Done, Failed}
-use Rattle.joiner.specs.declared.putting.Spot.{Spot}
+use Rattle.rewriter.specs.declared.putting.Spot.{Spot}
 use Rattle.joiner.specs.Promises.{Joins}
-use Rattle.joiner.specs.Measuring.{Begun, Measures, Tallied, all, over}
-use Rattle.joiner.specs.Putting.{Planning, Put}
-use Rattle.joiner.specs.Merging.{Both, begun, top}
+use Rattle.rewriter.specs.Measuring.{Begun, Measures, Tallied, all, over}
+use Rattle.rewriter.specs.Putting as putting
+use Rattle.rewriter.specs.Putting.{Planning}
+use Rattle.joiner.specs.Merging.{Both, Measured, Planned, Put, begun, top}
+
+-- before the first item
+pub put-none : (old : List ℕ) → putting.Put [] old old top
+unfolding canonical canonicalFrom
+put-none old = record { row = refl; puts = (refl, refl) }
 
 module _ {a b : List ℕ} {rows : ℕ} (p : Both a b rows) where
   abbrev xs : List Item
@@ -51,38 +57,37 @@ module _ {a b : List ℕ} {rows : ℕ} (p : Both a b rows) where
 
   -- ---- measured
 
-  pub begun-first : rows ≤ 1024 → Begun a b a 0 [] (p .u) (replicate 256 0) (replicate 768 0) (replicate 1024 0) begun
-  begun-first l =
-      record {
-        bundled = record { sides = omega arith; which = side-first 0 a b refl; short = reading-reads a (p .first) .0; room = omega (arith, p .count) };
-        reads = p .first;
-        before = record { row = refl; small = zero-le; measured = measured-none a b (replicate 1024 0) (length-replicate {A = ℕ} 1024 0) (omega arith) };
-      }
-
-  module _ {es links plan : List ℕ} {t : Tally} where
-    -- one bundle has not too many names
-    first-tallied : Measures a b [] (p .u) es links plan t → Tallied a b es links plan xs t
-    first-tallied (all m) = m
-    first-tallied (over n l) = absurd (omega (arith, reading-within lenient a (p .first) .names))
-
-    pub begun-second : rows ≤ 1024 → Measures a b [] (p .u) es links plan t → Begun a b b 1 xs (p .v) es links plan t
-    begun-second l m =
+  module _ (l : rows ≤ 1024) where
+    pub begun-first : (plan : List ℕ) → length plan ≡ 1024 → Begun a b a 0 [] (p .u) (replicate 256 0) (replicate 768 0) plan begun
+    begun-first plan n =
         record {
-          bundled = record { sides = omega arith; which = side-second 1 a b (λ e. omega arith); short = reading-reads b (p .second) .0; room = omega (arith, length-items (p .u .found), p .count) };
-          reads = p .second;
-          before = first-tallied m;
+          bundled = record { sides = omega arith; which = side-first 0 a b refl; short = reading-reads a (p .first) .0; room = omega (arith, p .count) };
+          reads = p .first;
+          before = record { row = refl; small = zero-le; measured = measured-none a b plan n (omega arith) };
         }
 
-    -- ---- measured whole
+    module _ {es links plan : List ℕ} {t : Tally} where
+      -- one bundle has not too many names
+      first-tallied : Measures a b [] (p .u) es links plan t → Tallied a b es links plan xs t
+      first-tallied (all m) = m
+      first-tallied (over n l) = absurd (omega (arith, reading-within lenient a (p .first) .names))
 
-    module _ (l : rows ≤ 1024) (m : Measures a b xs (p .v) es links plan t) (old : List ℕ) where
-      few : length (xs ++ ys) ≤ 1024
-      few = rw both-rows l
+      pub begun-second : Measures a b [] (p .u) es links plan t → Begun a b b 1 xs (p .v) es links plan t
+      begun-second m =
+          record {
+            bundled = record { sides = omega arith; which = side-second 1 a b (λ e. omega arith); short = reading-reads b (p .second) .0; room = omega (arith, length-items (p .u .found), p .count) };
+            reads = p .second;
+            before = first-tallied m;
+          }
 
+    few : length (xs ++ ys) ≤ 1024
+    few = rw both-rows l
+
+    module _ {plan : List ℕ} {t : Tally} (m : Measured p plan t) (old : List ℕ) where
       many : 256 < t .names → 256 < length (namesFrom [] (xs ++ ys))
-      many g = go m
+      many g = go (m .measures)
         where
-          go : Measures a b xs (p .v) es links plan t → 256 < length (namesFrom [] (xs ++ ys))
+          go : Measures a b xs (p .v) (m .entries) (m .links) plan t → 256 < length (namesFrom [] (xs ++ ys))
           go (all k) = absurd (omega (arith, k .measured .table .table .few))
           go (over n h) = h
 
@@ -91,10 +96,10 @@ module _ {a b : List ℕ} {rows : ℕ} (p : Both a b rows) where
       names-over g = let e = joined (length old) ∙ together-names (length old) (xs ++ ys) few (many g) in record { answer = rw e; buffer = rw e }
 
       module _ (g : t .names ≤ 256) where
-        tallied : Tallied a b es links plan (xs ++ ys) t
-        tallied = go m
+        tallied : Tallied a b (m .entries) (m .links) plan (xs ++ ys) t
+        tallied = go (m .measures)
           where
-            go : Measures a b xs (p .v) es links plan t → Tallied a b es links plan (xs ++ ys) t
+            go : Measures a b xs (p .v) (m .entries) (m .links) plan t → Tallied a b (m .entries) (m .links) plan (xs ++ ys) t
             go (all k) = k
             go (over n h) = absurd (omega arith)
 
@@ -108,40 +113,32 @@ module _ {a b : List ℕ} {rows : ℕ} (p : Both a b rows) where
             let e = joined (length old) ∙ together-size (length old) (xs ++ ys) few names (rw (← tallied .measured .length-is) c) in
             record { answer = rw e; buffer = rw e }
 
-        -- ---- written
-
         module _ (o : ltb (min max-bytes (length old)) (t .size) ≡ false) where
           fits : length (canonical (xs ++ ys)) ≤ min max-bytes (length old)
           fits = rw (← tallied .measured .length-is) (ltb-false _ _ o)
 
-          pub planning-first : Planning a [] ys (p .u) plan (length old)
-          planning-first =
-              record {
-                short = reading-reads a (p .first) .0;
-                reads = p .first;
-                size = tallied .measured .plan-size;
-                planned = tallied .measured .planned;
-                few = names;
-                fits = omega (arith, fits);
-              }
+          pub planned : Planned p plan (length old)
+          planned = record { size = tallied .measured .plan-size; planned = tallied .measured .planned; few = names; fits = omega (arith, fits) }
 
-          pub put-first : Put [] old old top
-          unfolding canonical canonicalFrom
-          put-first = record { row = refl; puts = (refl, refl) }
-
-          pub planning-second : Planning b xs [] (p .v) plan (length old)
-          planning-second =
-              record {
-                short = reading-reads b (p .second) .0;
-                reads = p .second;
-                size = tallied .measured .plan-size;
-                planned = rw (append-nil (xs ++ ys)) (tallied .measured .planned);
-                few = rw (append-nil (xs ++ ys)) names;
-                fits = rw (append-nil (xs ++ ys)) (omega (arith, fits));
-              }
-
-          pub written : {new : List ℕ} {w : Spot} → Put (xs ++ ys) old new w → Joins a b old (Done (t .size)) new
+          pub written : {new : List ℕ} {w : Spot} → Put p old new w → Joins a b old (Done (t .size)) new
           unfolding counted stored then
           written q =
               let e = joined (length old) ∙ together-fits (length old) (xs ++ ys) (record { rows = few; names = names; size = fits }) in
               record { answer = rw e (ap good (tallied .measured .length-is)); buffer = rw e (q .puts .1) }
+
+  -- ---- written
+
+  module _ {plan : List ℕ} {capacity : ℕ} (g : Planned p plan capacity) where
+    pub planning-first : Planning a [] ys (p .u) plan capacity
+    planning-first = record { short = reading-reads a (p .first) .0; reads = p .first; size = g .size; planned = g .planned; few = g .few; fits = g .fits }
+
+    pub planning-second : Planning b xs [] (p .v) plan capacity
+    planning-second =
+        record {
+          short = reading-reads b (p .second) .0;
+          reads = p .second;
+          size = g .size;
+          planned = rw (append-nil (xs ++ ys)) (g .planned);
+          few = rw (append-nil (xs ++ ys)) (g .few);
+          fits = rw (append-nil (xs ++ ys)) (g .fits);
+        }

@@ -1,8 +1,5 @@
 -- What the answers of the joiner mean, what is known on its way, and demand 3 as a law of what it promises.
 pub mod Answers
-pub mod Items
-pub mod Measuring
-pub mod Putting
 pub mod Merging
 pub mod Promises
 pub mod Laws

@@ -1,18 +1,19 @@
 // Two bundles that read, merged: measured first, then written, so that an error changes no byte.
 ghost use mathlib.Core.Path.{_≡_};
-ghost use Prim.Native.Nat.{min};
+ghost use Prim.Native.Nat.{ℕ, _≤_, min};
 ghost use lib.Dec.{ltb};
+ghost use lib.ListN.{length};
 ghost use Rattle.format.specs.Limits.{max-bytes};
 ghost use Rattle.joiner.specs.Promises.{Joins};
-ghost use Rattle.joiner.specs.Merging.{Both, begun, top};
-use crate::measuring::Tally;
-use crate::measuring::measure;
-use crate::putting::Spot;
-use crate::putting::put;
+ghost use Rattle.joiner.specs.Merging.{Both, Fitting, Measured, Ready, Planned, Put, begun, top};
 use format::Bundle;
 use format::Error;
 use format::Row;
 use format::SymbolTable;
+use rewriter::measuring::Tally;
+use rewriter::measuring::measure;
+use rewriter::putting::Spot;
+use rewriter::putting::put;
 use symbols::lookup::Links;
 
 // The number of bytes written, or the error with its place and side: 1 or 2 for the bundle that does not read, else 0.
@@ -54,6 +55,28 @@ fn is_over(size: usize, capacity: usize) -> bool
     capacity < size
 }
 
+// Measures both bundles, and plans how their names are written.
+fn measure_both<'a>(first: &'a [u8], second: &'a [u8], plan: &mut [u16; Row::MAX_COUNT]) -> Tally
+    requires { ⌜ Fitting (now first) (now second) × (length (now plan) ≡ 1024) ⌝ }
+    ensures { λ r. ⌜ ((rows : ℕ) (p : Both (now (first .entry)) (now (second .entry)) rows) → rows ≤ 1024 → Measured p (now (plan .exit)) r) ⌝ }
+{
+    let mut entries = [0u64; SymbolTable::MAX_ENTRIES];
+    let mut links = [0u16; Links::SIZE];
+    let t = begin();
+    let t = measure(first, second, first, 0, &mut entries, &mut links, plan, t);
+    measure(first, second, second, 1, &mut entries, &mut links, plan, t)
+}
+
+// Writes both bundles as planned.
+fn put_both(out: &mut [u8], first: &[u8], second: &[u8], plan: &[u16; Row::MAX_COUNT]) -> Spot
+    requires { ⌜ Ready (now first) (now second) (now plan) (length (now out)) ⌝ }
+    ensures { λ r. ⌜ ((rows : ℕ) (p : Both (now (first .entry)) (now (second .entry)) rows) → Planned p (now (plan .entry)) (length (now (out .entry)))
+        → Put p (now (out .entry)) (now (out .exit)) r) ⌝ }
+{
+    let w = put(out, first, plan, start());
+    put(out, second, plan, w)
+}
+
 // Merges two bundles that have so many rows together.
 pub fn merge<'a>(first: &'a [u8], second: &'a [u8], out: &mut [u8], rows: usize) -> Joined
     requires { ⌜ Both (now first) (now second) rows ⌝ }
@@ -62,36 +85,14 @@ pub fn merge<'a>(first: &'a [u8], second: &'a [u8], out: &mut [u8], rows: usize)
     if Row::MAX_COUNT < rows {
         return Joined::Failed(Error::TooManyRows, 0, 0);
     }
-    let mut entries = [0u64; SymbolTable::MAX_ENTRIES];
-    let mut links = [0u16; Links::SIZE];
     let mut plan = [0u16; Row::MAX_COUNT];
-    let t = measure(
-        first,
-        second,
-        first,
-        0,
-        &mut entries,
-        &mut links,
-        &mut plan,
-        begin(),
-    );
-    let t = measure(
-        first,
-        second,
-        second,
-        1,
-        &mut entries,
-        &mut links,
-        &mut plan,
-        t,
-    );
+    let t = measure_both(first, second, &mut plan);
     if SymbolTable::MAX_ENTRIES < t.names {
         return Joined::Failed(Error::TooManyEntries, 0, 0);
     }
     if is_over(t.size, out.len()) {
         return Joined::Failed(Error::OutputTooLong, 0, 0);
     }
-    let w = put(out, first, &plan, start());
-    put(out, second, &plan, w);
+    put_both(out, first, second, &plan);
     Joined::Done(t.size)
 }

@@ -7,7 +7,7 @@ use native.Mathlib.Omega.{arith}
 use lib.ListN.{length, length-append}
 use Rattle.format.proofs.Tests.{ltb-no, ltb-yes, order, pick-no, pick-yes}
 use Rattle.listed.specs.Text.{decimal, decimalIn}
-use Rattle.listed.specs.Promises.{Puts}
+use Rattle.wire.specs.Output.{Puts}
 use Rattle.listed.proofs.Writing.{Stage, start, first-fits, first}
 
 module _ (k n : ℕ) where

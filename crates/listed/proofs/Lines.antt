@@ -5,7 +5,7 @@ use Prim.Native.Nat.{ℕ, _≤_}
 use lib.ListN.{length, drop}
 use Rattle.format.specs.declared.row.Row.{Row}
 use Rattle.listed.specs.Text.{bundle-word, bundleLine, decimal, ended, envelope-word, envelopeText, labelled, newline, refused-word, rowLine, space}
-use Rattle.listed.specs.Promises.{Puts}
+use Rattle.wire.specs.Output.{Puts}
 use Rattle.listed.proofs.Writing.{Stage, first, first-fits}
 
 -- `copy` wrote the word
@@ -16,7 +16,7 @@ module _ (word : List ℕ) (n : ℕ) (out : List ℕ) (capacity : length (labell
 
   pub word-put : {l : List ℕ} {at : ℕ} → (at ≡ length word) × (l ≡ word ++ drop (length word) out) → Stage (labelled word n) out l at (decimal n ∷ [])
   unfolding labelled
-  word-put {l} {at} p = first word (decimal n ∷ []) out capacity l at (record { count = p .0; whole = p .1 })
+  word-put {l} {at} p = first word (decimal n ∷ []) out capacity l at p
 
 module _ (i : ℕ) (r : Row) (out : List ℕ) (capacity : length (rowLine i r) ≤ length out) where
   abbrev columns : List (List ℕ)

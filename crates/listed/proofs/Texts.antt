@@ -18,7 +18,8 @@ use Rattle.format.proofs.Bounds.{reading-within}
 use Rattle.reader.specs.Answers.{answerOf, rowsIn}
 use Rattle.listed.specs.declared.table.Table.{Table}
 use Rattle.listed.specs.Text.{bundleLine, bundle-word, decimal, ended, envelopeText, envelope-word, firstLine, labelled, max-text, names-word, newline, refused-word, at-word, rowLine, rowLines, rows-word, rowsOf, space, text, within}
-use Rattle.listed.specs.Promises.{Puts, Tabled, blank}
+use Rattle.wire.specs.Output.{Puts}
+use Rattle.listed.specs.Promises.{Tabled, blank}
 use Rattle.listed.proofs.Decimals.{length-decimal}
 use Rattle.listed.proofs.Writing.{Stage, first-fits, first, ends}
 
@@ -141,7 +142,7 @@ module _ (bs : List ℕ) where
 module _ (bs out : List ℕ) where
   pub put-none : length out < max-text → Puts (within (length out) bs) 0 out out
   unfolding within
-  put-none l = let e = pick-yes [] bs (ltb-yes l) in rw e (record { count = refl; whole = refl })
+  put-none l = let e = pick-yes [] bs (ltb-yes l) in rw e (refl, refl)
 
   pub put-all : (r : ℕ) (l : List ℕ) → max-text ≤ length out → Puts bs r out l → Puts (within (length out) bs) r out l
   unfolding within

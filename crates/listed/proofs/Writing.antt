@@ -4,10 +4,10 @@ use mathlib.Core.List.{List, [], _∷_, flatten}
 use Prim.Native.Nat.{ℕ, _+_, _-_, _≤_}
 use native.Mathlib.Omega.{arith}
 use lib.ListN.{length, take, drop, set, length-append, length-drop, length-set}
-use lib.Seq.{drop-drop, length-take-le}
+use lib.Seq.{drop-drop}
 use borrow.Rule.Slice.PartMut.{putMid}
 use Rattle.wire.proofs.Wrote.{Wrote, start as begin, byte, finish, part-back, tail, to-come, wrote-front}
-use Rattle.listed.specs.Promises.{Puts}
+use Rattle.wire.specs.Output.{Puts}
 
 -- Of `whole`, n bytes stand at the start of l and the parts ps are to come; l₀ was there before.
 pub record Stage (whole l₀ l : List ℕ) (n : ℕ) (ps : List (List ℕ)) : Type 0 where
@@ -35,8 +35,8 @@ module _ {w l₀ l h : List ℕ} {n : ℕ} {ps : List (List ℕ)} (q : Stage w l
   pub next : (ys : List ℕ) (r : ℕ) → Puts h r (take (length l - n) (drop n l)) ys → Stage w l₀ (putMid n (length l - n) l ys) (n + r) ps
   unfolding flatten
   next ys r p =
-      let o = part-back h ys r (q .wrote) refl (omega (arith, room)) (q .capacity) (p .count) (p .whole) in
-      staged o (omega (arith, o .long, q .wrote .long, room, p .count)) (q .capacity)
+      let o = part-back h ys r (q .wrote) refl (omega (arith, room)) (q .capacity) (p .0) (p .1) in
+      staged o (omega (arith, o .long, q .wrote .long, room, p .0)) (q .capacity)
 
 -- the first part was written
 module _ (h : List ℕ) (ps : List (List ℕ)) (l₀ : List ℕ) (capacity : length (flatten (h ∷ ps)) ≤ length l₀) where
@@ -45,7 +45,7 @@ module _ (h : List ℕ) (ps : List (List ℕ)) (l₀ : List ℕ) (capacity : len
 
   pub first : (l : List ℕ) (n : ℕ) → Puts h n l₀ l → Stage (flatten (h ∷ ps)) l₀ l n ps
   unfolding flatten
-  first l n p = let o = wrote-front h (flatten ps) l₀ l n (p .count) (p .whole) first-fits in staged o (omega (arith, o .long, first-fits, p .count)) capacity
+  first l n p = let o = wrote-front h (flatten ps) l₀ l n (p .0) (p .1) first-fits in staged o (omega (arith, o .long, first-fits, p .0)) capacity
 
 -- the next byte was written
 pub next-byte : {w l₀ l : List ℕ} {n b : ℕ} {ps : List (List ℕ)} → Stage w l₀ l n ((b ∷ []) ∷ ps) → Stage w l₀ (set l n b) (n + 1) ps
@@ -55,7 +55,7 @@ next-byte {l = l} {n} {b} q = staged (byte (q .wrote) (omega (arith, room q))) (
 -- all is written
 pub ends : {w l₀ l : List ℕ} {n : ℕ} → Stage w l₀ l n [] → Puts w n l₀ l
 unfolding flatten
-ends q = let f = finish (q .wrote) (omega (arith, q .inside)) in record { count = f .0; whole = f .1 }
+ends q = finish (q .wrote) (omega (arith, q .inside))
 
 -- ---- from one buffer to the next
 
@@ -69,11 +69,3 @@ since {l₀ = l₀} {l} {l′} {n} {n′} q q′ le =
     let e : n + (n′ - n) ≡ n′ = omega arith in
     let back : drop n′ l ≡ drop n′ l₀ = subst (λ (m : ℕ). drop m l ≡ drop m l₀) e (sym (drop-drop (n′ - n) n l) ∙ ap (drop (n′ - n)) (q .wrote .back) ∙ drop-drop (n′ - n) n l₀) in
     record { wrote = record { front = q′ .wrote .front; back = q′ .wrote .back ∙ back; long = q′ .wrote .long ∙ q .wrote .long }; inside = q′ .inside; capacity = q .capacity }
-
--- ---- for callers
-
--- What was written is a part of the buffer that can be lent.
-pub puts-counts : {bs entry exit : List ℕ} {r : ℕ} → Puts bs r entry exit → (r ≤ length exit) × (r ≡ length (take r exit))
-puts-counts {bs} {entry} {exit} {r} p =
-    let l : r ≤ length exit = omega (arith, p .count, ap length (p .whole), length-append bs (drop (length bs) entry)) in
-    (l, sym (length-take-le r exit l))

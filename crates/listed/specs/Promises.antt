@@ -1,8 +1,8 @@
 -- What the functions promise, as their contracts cite it.
 use mathlib.Core.Path.{_≡_}
-use mathlib.Core.List.{List, _++_}
+use mathlib.Core.List.{List}
 use Prim.Native.Nat.{ℕ}
-use lib.ListN.{length, drop, replicate}
+use lib.ListN.{replicate}
 use Rattle.format.specs.declared.row.Row.{Row}
 use Rattle.format.specs.Limits.{max-rows}
 use Rattle.format.specs.Answer.{stored}
@@ -18,8 +18,3 @@ blank = record { kind = 0; number = 0; start = 0 }
 pub record Tabled (bytes : List ℕ) (t : Table) : Type 0 where
   pub answer : answerOf (t .answer) ≡ counts lenient bytes
   pub filled : t .rows ≡ stored (replicate max-rows blank) (rows lenient bytes)
-
--- Bytes `bs` were written at the start of a buffer: how many, and the buffer after it.
-pub record Puts (bs : List ℕ) (r : ℕ) (entry exit : List ℕ) : Type 0 where
-  pub count : r ≡ length bs
-  pub whole : exit ≡ bs ++ drop (length bs) entry

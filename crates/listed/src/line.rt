@@ -3,7 +3,7 @@ ghost use Prim.Native.Nat.{_≤_};
 ghost use lib.ListN.{length};
 ghost use Rattle.reader.specs.Answers.{answerOf};
 ghost use Rattle.listed.specs.Text.{rowLine, bundleLine, firstLine, envelopeText};
-ghost use Rattle.listed.specs.Promises.{Puts};
+ghost use Rattle.wire.specs.Output.{Puts};
 use crate::number::put_ended;
 use crate::number::put_labelled;
 use format::Row;

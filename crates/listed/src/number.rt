@@ -2,7 +2,7 @@
 ghost use Prim.Native.Nat.{_≤_};
 ghost use lib.ListN.{length};
 ghost use Rattle.listed.specs.Text.{decimal, ended, labelled};
-ghost use Rattle.listed.specs.Promises.{Puts};
+ghost use Rattle.wire.specs.Output.{Puts};
 use wire::output::copy;
 
 // By recursion, so that each digit is worked out once and written in its place; two digits at a time.

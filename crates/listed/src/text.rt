@@ -3,7 +3,7 @@ ghost use mathlib.Core.Path.{_≡_};
 ghost use lib.ListN.{length};
 ghost use Rattle.reader.specs.Answers.{answerOf, rowsIn};
 ghost use Rattle.listed.specs.Text.{text, envelopeText, within};
-ghost use Rattle.listed.specs.Promises.{Puts};
+ghost use Rattle.wire.specs.Output.{Puts};
 use crate::line::put_envelope;
 use crate::line::put_first;
 use crate::line::put_row;

@@ -16,7 +16,7 @@ use Rattle.stream.specs.declared.state.Stream.{Stream}
 use Rattle.stream.specs.Window.{Flushes, Ready, advanced, stopped, unread}
 use Rattle.stream.proofs.WindowLaws.{part-length, waits}
 use Rattle.listed.specs.Text.{envelopeText, max-text, text, within}
-use Rattle.listed.specs.Promises.{Puts}
+use Rattle.wire.specs.Output.{Puts}
 use Rattle.listed.proofs.Texts.{envelope-short, text-short}
 use Rattle.listing.specs.declared.run.Listing.{Listing}
 use Rattle.listing.specs.Printed.{Lists, Takes, afterwards, printed}
@@ -51,7 +51,7 @@ within-fits bs capacity l =
     order max-text capacity (λ m. rw (pick-no [] bs (ltb-no m)) (omega arith)) (λ m. rw (pick-yes [] bs (ltb-yes m)) (omega arith))
 
 pub written-fits : {k : ℕ} {bs old new : List ℕ} {r : Step} → Lists k bs old r new → r .written ≤ length old
-written-fits {k} {bs} {old} h = omega (arith, h .puts .count, within-fits (printed k (opening bs)) (length old) (printed-short k (opening bs)))
+written-fits {k} {bs} {old} h = omega (arith, h .puts .0, within-fits (printed k (opening bs)) (length old) (printed-short k (opening bs)))
 
 -- ---- the run
 
@@ -78,10 +78,10 @@ module _ (l : Listing) (step : Step) (k : ℕ) (input output ys : List ℕ) (h :
     all-of-it = pick-no [] line (ltb-no {a = length part} {b = max-text} (omega (arith, part-length (s .filled) (length output) output (omega arith))))
 
     written-as : step .written ≡ length line
-    written-as = rw all-of-it at (t .puts .count)
+    written-as = rw all-of-it at (t .puts .0)
 
     pub line-waits : take (s .filled + step .written) new ≡ take (s .filled) output ++ line
-    line-waits = waits s step input output h (used-fits t) (written-fits t) line ys written-as (rw all-of-it at (t .puts .whole))
+    line-waits = waits s step input output h (used-fits t) (written-fits t) line ys written-as (rw all-of-it at (t .puts .1))
 
     went : (a : Answer (List ℕ)) → opening bs ≡ a → step .used ≢ 0 → advanced s step ≡ afterwards s (length line) a
     unfolding afterwards sizeIn

@@ -13,7 +13,7 @@ use Rattle.stream.specs.declared.state.Action.{Action}
 use Rattle.stream.specs.declared.state.Action.the-variants.{Read, Take, End}
 use Rattle.stream.specs.Window.{Flushes, Refills, advanced, stopped, unread}
 use Rattle.listed.specs.Text.{envelopeText, max-text, text, within}
-use Rattle.listed.specs.Promises.{Puts}
+use Rattle.wire.specs.Output.{Puts}
 use Rattle.listing.specs.declared.run.Listing.{Listing}
 
 unfoldable pub printed : ℕ → Answer (List ℕ) → List ℕ

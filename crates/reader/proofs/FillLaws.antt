@@ -18,8 +18,8 @@ use Rattle.format.proofs.Headers.{size-within}
 use Rattle.reader.specs.declared.fill.Filled.{Filled}
 use Rattle.symbols.specs.Entry.{plainEntry}
 use Rattle.reader.specs.Filling.{rowOf, fixedRow, entryRow, filledForm, tableForm, filledAt, tableAt, filledNext, tableNext, blank}
-use Rattle.reader.proofs.Flat.{form-reference}
-use Rattle.reader.proofs.Heads.{standing}
+use Rattle.items.proofs.Flat.{form-reference}
+use Rattle.items.proofs.Heads.{standing}
 
 -- ---- rows with a kind and a number
 

@@ -13,9 +13,9 @@ use Rattle.format.specs.Answer.{Answer, good, fail}
 use Rattle.format.specs.Place.{Place, ended}
 use Rattle.format.specs.Reading.{Options, State}
 use Rattle.format.proofs.Tests.{leb-yes, leb-no, pick-yes, pick-no}
-use Rattle.reader.specs.declared.item.Out.{Out}
-use Rattle.reader.specs.declared.item.Out.the-variants as out
-use Rattle.reader.specs.Judging.{Stands, spot, rowed, Goes, Judged}
+use Rattle.items.specs.declared.item.Out.{Out}
+use Rattle.items.specs.declared.item.Out.the-variants as out
+use Rattle.items.specs.Judging.{Stands, spot, rowed, Goes, Judged}
 
 -- What an item comes to where there is no row for it.
 abbrev pub rowlessOf : Out → Out

@@ -25,11 +25,11 @@ use Rattle.format.proofs.ReadBack.{reading-reads}
 use Rattle.symbols.specs.Entry.{plainEntry, nameIn}
 use Rattle.symbols.proofs.EntryLaws.{Packed, packed-plain}
 use Rattle.reader.specs.declared.fill.Filled.{Filled}
-use Rattle.reader.specs.Judging.{foundIn, entriesOf, partOf}
+use Rattle.items.specs.Judging.{foundIn, entriesOf, partOf}
 use Rattle.reader.specs.Answers.{rowsIn}
 use Rattle.reader.specs.Filling.{entryRow, filledForm, tableForm, filledAt, tableAt, filledNext, tableNext, rowsFrom, begin}
-use Rattle.reader.proofs.Entries.{length-entries, entry-none, entry-is, entries-more}
-use Rattle.reader.proofs.NameEntry.{found-packed}
+use Rattle.items.proofs.Entries.{length-entries, entry-none, entry-is, entries-more}
+use Rattle.items.proofs.NameEntry.{found-packed}
 
 module _ (bytes : List ℕ) (short : length bytes ≤ max-bytes) where
   -- A packed table stands for the entries.

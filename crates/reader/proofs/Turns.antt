@@ -18,12 +18,12 @@ use Rattle.format.specs.Place.{Place, ended, due}
 use Rattle.format.specs.Reading.{Options, State, item, ending, run}
 use Rattle.format.proofs.Steps.{run-to, run-failed, run-end}
 use Rattle.format.proofs.Tests.{order, ltb-yes, ltb-no, pick-yes, pick-no}
-use Rattle.reader.specs.declared.item.Out.{Out}
-use Rattle.reader.specs.declared.item.Out.the-variants as out
+use Rattle.items.specs.declared.item.Out.{Out}
+use Rattle.items.specs.declared.item.Out.the-variants as out
 use Rattle.reader.specs.declared.fields.Cursor.{Cursor}
 use Rattle.reader.specs.declared.fields.Step.{Step}
 use Rattle.reader.specs.declared.fields.Step.the-variants as step
-use Rattle.reader.specs.Judging.{Fair, Stands, Moved, Judged, spot}
+use Rattle.items.specs.Judging.{Fair, Stands, Moved, Judged, spot}
 use Rattle.reader.specs.Lanes.{Lane, Leads, Resumes}
 use Rattle.reader.proofs.LastRule.{rowlessOf, Taken, Takes, takes, takes-none}
 

@@ -13,7 +13,7 @@ use Rattle.format.specs.Reading.{Options, State, run}
 use Rattle.reader.specs.declared.fields.Cursor.{Cursor}
 use Rattle.reader.specs.declared.fields.Step.{Step}
 use Rattle.reader.specs.declared.fields.Step.the-variants as step
-use Rattle.reader.specs.Judging.{Fair, Stands, spot}
+use Rattle.items.specs.Judging.{Fair, Stands, spot}
 
 -- The places on the way through n fields, by how many are left and whether a key was read. d more containers may be opened.
 pub record Lane (Q : ℕ → Bool → Place) (d n : ℕ) : Type 0 where

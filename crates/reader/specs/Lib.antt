@@ -1,5 +1,4 @@
--- How the state of the code stands for the state of reading, and what its answers mean.
-pub mod Judging
+-- What the answers of the reader mean.
 pub mod Lanes
 pub mod Answers
 pub mod Filling

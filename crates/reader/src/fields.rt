@@ -6,12 +6,12 @@ ghost use lib.ListN.{length};
 ghost use Rattle.format.specs.Limits.{max-rows};
 ghost use Rattle.format.specs.Place.{Place};
 ghost use Rattle.format.specs.Reading.{Options, State};
-ghost use Rattle.reader.specs.Judging.{Fair, Stands};
+ghost use Rattle.items.specs.Judging.{Fair, Stands};
 ghost use Rattle.reader.specs.Lanes.{Lane, Went, Resumes};
-use crate::item::Out;
 use format::Error;
 use format::FieldCount;
 use format::SymbolTable;
+use items::item::Out;
 use symbols::lookup::Links;
 
 // How far reading has come: the offset, the entries, the rows that are left, and 1 where a key was read and its value is due.
@@ -63,7 +63,7 @@ pub fn fields(
                 },
             );
         }
-        match crate::item::one(s, strict, depth, at, names, keyed, entries, links) {
+        match items::item::one(s, strict, depth, at, names, keyed, entries, links) {
             Out::Bad(k) => {
                 return Step::Bad(k, at);
             }

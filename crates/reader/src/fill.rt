@@ -5,11 +5,11 @@ ghost use mathlib.Core.List.{_++_};
 ghost use lib.ListN.{length, drop};
 ghost use Rattle.format.specs.Reading.{content, formOf};
 ghost use Rattle.reader.specs.Filling.{fixedRow, entryRow, filledForm, tableForm, filledNext, tableNext, rowsFrom, begin};
-use crate::item::is_integer;
 use format::Bundle;
 use format::Header;
 use format::Row;
 use format::SymbolTable;
+use items::item::is_integer;
 use symbols::entry::plain_entry;
 use wire::header::Head;
 
@@ -18,6 +18,13 @@ pub struct Filled {
     pub at: usize,
     pub names: usize,
     pub row: Row,
+}
+
+// A row, with where it leads.
+fn row_at(at: usize, names: usize, row: Row) -> Filled
+    ensures { λ r. ⌜ r ≡ record { at = at; names = names; row = row } ⌝ }
+{
+    Filled { at, names, row }
 }
 
 // The row of a header with a kind and a number.
@@ -107,18 +114,10 @@ fn headed_row(
     let p = h.payload;
     // most items first
     if is_integer(code) {
-        return Filled {
-            at: next,
-            names,
-            row: fixed_row(h),
-        };
+        return row_at(next, names, fixed_row(h));
     }
     if code == 7 {
-        return Filled {
-            at: next,
-            names,
-            row: entry_row(p, entries),
-        };
+        return row_at(next, names, entry_row(p, entries));
     }
     if 4 <= code {
         return content_row(code + 5, p, next, names, entries);
@@ -128,11 +127,7 @@ fn headed_row(
             return content_row(5, p, next, names, entries);
         }
     }
-    Filled {
-        at: next,
-        names,
-        row: fixed_row(h),
-    }
+    row_at(next, names, fixed_row(h))
 }
 
 // The row of the next item.

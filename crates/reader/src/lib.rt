@@ -1,8 +1,7 @@
-// The reader: one item, the fields of a container by recursion, `check` and `read`.
+// The reader: the fields of a container by recursion, `check` and `read`.
 mod checking;
 mod fields;
 mod fill;
-mod item;
 mod reading;
 
 pub use checking::Checked;

@@ -47,11 +47,6 @@ module _ (start i : ℕ) (bs : List ℕ) (l : start + i < length bs) where
       ∙ ap (λ (k : ℕ). moved start k bs) (sym (add-one i))
 
 module _ (start n : ℕ) (bs : List ℕ) (l : start + n ≤ length bs) where
-  pub moved-length : length (moved start n bs) ≡ length bs
-  moved-length =
-      let e = length-take-le n (drop start bs) (omega (arith, length-drop start bs)) in
-      omega (arith, length-append (take n (drop start bs)) (drop n bs), e, length-drop n bs)
-
   pub moved-all : take n (moved start n bs) ≡ take n (drop start bs)
   moved-all = take-at (take n (drop start bs)) (drop n bs) n (length-take-le n (drop start bs) (omega (arith, length-drop start bs)))
 

@@ -1,4 +1,4 @@
 -- What the answers of the leaves mean.
 pub mod Heads
-pub mod Local
+pub mod Output
 pub mod Widths

@@ -1,6 +1,5 @@
-// The leaves: a header read, UTF-8, bytes compared, rules that reading and writing share, and headers and bytes written.
+// The leaves: a header read, bytes compared, rules that reading and writing share, and headers and bytes written.
 pub mod bytes;
 pub mod header;
 pub mod output;
 pub mod rules;
-pub mod utf8;

@@ -5,6 +5,7 @@ ghost use Prim.Native.Nat.{_+_, _*_, _≤_, _<_};
 ghost use lib.ListN.{length, drop};
 ghost use Rattle.format.specs.Limits.{max-inline};
 ghost use Rattle.format.specs.Header.{shift, digits, header};
+ghost use Rattle.wire.specs.Output.{Puts};
 use crate::header::is_inline;
 use crate::header::width;
 use format::Header;
@@ -36,7 +37,7 @@ fn inline_lead(code: u8, p: u64) -> u8
 // The shortest header.
 pub fn put_header(out: &mut [u8], code: u8, p: u64) -> usize
     requires { ⌜ (code < 8) × (length (header code p) ≤ length (now out)) ⌝ }
-    ensures { λ r. ⌜ (r ≡ length (header code p)) × (now (out .exit) ≡ header code p ++ drop (length (header code p)) (now (out .entry))) ⌝ }
+    ensures { λ r. ⌜ Puts (header code p) r (now (out .entry)) (now (out .exit)) ⌝ }
 {
     if is_inline(code, p) {
         out[0] = inline_lead(code, p);
@@ -55,7 +56,7 @@ pub fn put_header(out: &mut [u8], code: u8, p: u64) -> usize
 // The bytes of another buffer.
 pub fn copy(out: &mut [u8], from: &[u8]) -> usize
     requires { ⌜ length (now from) ≤ length (now out) ⌝ }
-    ensures { λ r. ⌜ (r ≡ length (now (from .entry))) × (now (out .exit) ≡ now (from .entry) ++ drop (length (now (from .entry))) (now (out .entry))) ⌝ }
+    ensures { λ r. ⌜ Puts (now (from .entry)) r (now (out .entry)) (now (out .exit)) ⌝ }
 {
     let mut n = 0;
     while n < from.len() {

@@ -4,8 +4,8 @@ ghost use mathlib.Core.Bool.{not};
 ghost use lib.Dec.{eqb};
 ghost use Rattle.format.specs.Choice.{_&&_};
 ghost use Rattle.format.specs.Utf8.{utf8};
-use crate::utf8::is_utf8;
 use format::Row;
+use utf8::is_utf8;
 
 // A key where a key was taken (1) and its value is due.
 pub fn key_after_key(keyed: usize, kind: u8) -> bool

@@ -13,11 +13,14 @@ use Rattle.format.specs.Writing.{begin, judge}
 use Rattle.format.proofs.Tests.{equal}
 use Rattle.symbols.specs.Chains.{Chained}
 use Rattle.encoder.proofs.MeasureLaws.{measured-none}
-use Rattle.writer.specs.declared.state.State.{State}
-use Rattle.writer.specs.Stack.{bottom, openedOf}
-use Rattle.writer.specs.Steps.{begun}
-use Rattle.writer.proofs.RowLaws.{blank}
-use Rattle.writer.specs.Judging.{After, Ready, Next, Judging, Verdict}
+use Rattle.rows.specs.declared.state.State.{State}
+use Rattle.rows.specs.Stack.{bottom, openedOf}
+use Rattle.rows.specs.Judging.{After, Ready, Next}
+use Rattle.writer.specs.Verdict.{begun, Judging, Verdict}
+
+-- The row that stands past the end of a list of rows.
+abbrev pub blank : Row
+blank = record { kind = 0; number = 0; start = 0 }
 
 module _ (text : List ℕ) (rs : List Row) (n : ℕ) where
   -- before the first row

@@ -16,11 +16,12 @@ use Rattle.format.specs.Canonical.{canonical, canonicalFrom}
 use Rattle.format.specs.Rows.{itemAt, itemsAt}
 use Rattle.format.specs.Writing.{isBad}
 use Rattle.format.proofs.Lists.{all-at, map-append}
-use Rattle.encoder.specs.Output.{Puts, PutsAt}
+use Rattle.wire.specs.Output.{Puts}
+use Rattle.encoder.specs.Output.{PutsAt}
 use Rattle.encoder.specs.Plan.{Planned, encodedAt}
 use Rattle.encoder.proofs.PutLaws.{at-seam, one-fits, puts-more}
 use Rattle.writer.specs.Putting.{Putting}
-use Rattle.writer.proofs.RowLaws.{blank}
+use Rattle.writer.proofs.Loop.{blank}
 
 -- row i, after those before it
 module _ (text plan : List ℕ) (rows : List Row) (n capacity : ℕ) (p : Putting text plan (take n rows) capacity) (le : n ≤ length rows) (i : ℕ) (lt : i < n) where

@@ -21,12 +21,13 @@ use Rattle.format.specs.Writing.{Progress, begin, fitted, judge, writing}
 use Rattle.format.proofs.Tests.{cases, eqb-no, eqb-true, equal, failed-good, good-inj, ltb-no, ltb-yes, none-some, or-no, order, pick-no, pick-yes}
 use Rattle.format.proofs.Steps.{then-good}
 use Rattle.format.proofs.Fitting.{fitted-fits, fitted-good, fitted-over}
-use Rattle.writer.specs.declared.state.State.{State}
+use Rattle.rows.specs.declared.state.State.{State}
 use Rattle.format.specs.declared.written.Written.{Written}
 use Rattle.encoder.specs.Plan.{Measured}
 use Rattle.writer.specs.Putting.{Putting}
-use Rattle.writer.specs.Judging.{Passed, Verdict, isRowError}
-use Rattle.writer.proofs.StackLaws.{opened-length}
+use Rattle.rows.specs.Judging.{isRowError}
+use Rattle.writer.specs.Verdict.{Passed, Verdict}
+use Rattle.rows.proofs.StackLaws.{opened-length}
 use Rattle.symbols.proofs.ChainLaws.{length-names}
 use Rattle.format.specs.Written.{answerOf}
 use Rattle.writer.specs.Extent.{limitOf, rowsIn}

@@ -1,8 +1,5 @@
-pub mod Stack
-pub mod Steps
-pub mod Rules
+-- What judging and writing all rows promise.
+pub mod Verdict
 pub mod Putting
-pub mod Judging
-pub mod Names
 pub mod Extent
 pub mod Promises

@@ -2,14 +2,13 @@
 ghost use mathlib.Core.Path.{_≡_};
 ghost use Prim.Native.Nat.{_≤_, _<_};
 ghost use lib.ListN.{length, take};
-ghost use Rattle.writer.specs.Judging.{Verdict};
-ghost use Rattle.writer.specs.Steps.{begun};
-use crate::name::Plan;
-use crate::row::step;
-use crate::state::State;
+ghost use Rattle.writer.specs.Verdict.{begun, Verdict};
 use format::Bundle;
 use format::Row;
 use format::SymbolTable;
+use rows::Plan;
+use rows::State;
+use rows::step;
 use symbols::lookup::Links;
 
 // The state before the first of n rows.

@@ -7,16 +7,17 @@ ghost use Rattle.format.specs.Answer.{good, stored};
 ghost use Rattle.format.specs.Canonical.{canonical};
 ghost use Rattle.format.specs.Rows.{itemAt, itemsAt};
 ghost use Rattle.format.specs.Writing.{isBad};
-ghost use Rattle.encoder.specs.Output.{Puts, PutsAt};
+ghost use Rattle.wire.specs.Output.{Puts};
+ghost use Rattle.encoder.specs.Output.{PutsAt};
 ghost use Rattle.encoder.specs.Plan.{encodedAt};
 ghost use Rattle.writer.specs.Putting.{Putting};
-use crate::item::content;
-use crate::item::has_content;
-use crate::name::Plan;
 use encoder::putting::put_fixed;
 use encoder::putting::put_named;
 use encoder::putting::put_sized;
 use format::Row;
+use rows::Plan;
+use rows::content;
+use rows::has_content;
 use wire::output::put_header;
 
 // One row.

@@ -11,17 +11,18 @@ ghost use Rattle.format.specs.Answer.{counted};
 ghost use Rattle.format.specs.Error.{codeOf};
 ghost use Rattle.format.specs.Writing.{writing};
 ghost use Rattle.format.specs.Written.{answerOf};
-ghost use Rattle.writer.specs.Judging.{Verdict, isRowError};
+ghost use Rattle.rows.specs.Judging.{isRowError};
+ghost use Rattle.writer.specs.Verdict.{Verdict};
 ghost use Rattle.writer.specs.Extent.{limitOf, rowsIn};
 ghost use Rattle.writer.specs.Promises.{Wrote};
 use crate::judging::judge;
-use crate::name::Plan;
 use crate::putting::put;
-use crate::state::State;
 use format::Bundle;
 use format::Error;
 use format::Row;
 use format::Written;
+use rows::Plan;
+use rows::State;
 
 // How many rows are to be judged: none where there are too many, or the text is too long.
 fn limit(count: usize, len: usize) -> usize

@@ -23,7 +23,9 @@ part-merge-end : tie.Need-part-merge-end
 part-merge-end c = search needs
 
 merge-requires : tie.Need-merge-requires
-merge-requires c κs = with-empty (reads _ (rw (c .before .before .before .b .given .1) at (c .before .before .before .before .before .check .ensures)))
+merge-requires c κs =
+    let check′ = c .before .before .before .before .before .check in
+    with-empty (reads _ (rw (c .before .before .before .b .given .1) at (check′ .ensures)))
 
 written-requires : tie.Need-written-requires
 written-requires c κs = search needs
@@ -35,7 +37,10 @@ same-length : tie.Need-same-length
 same-length c = search needs
 
 returns-2 : tie.Need-returns-2
-returns-2 c = canonicalized (reads _ (rw (c .before .before .before .before .before .before .before .b .given .1) at (c .before .before .before .before .before .before .before .before .before .check .ensures))) (c .before .before .before .merge .ensures) (c .written .ensures)
+returns-2 c =
+    let b′ = c .before .before .before .before .before .before .before .b in
+    let check′ = c .before .before .before .before .before .before .before .before .before .check in
+    canonicalized (reads _ (rw (b′ .given .1) at (check′ .ensures))) (c .before .before .before .merge .ensures) (c .written .ensures)
 
 pub canonicalize-spec : {M : Type 1} → statement M
 canonicalize-spec =

@@ -42,7 +42,10 @@ returns : tie.Need-returns
 returns c = unread-first _ _ _ _ _ (rw (c .before .e .given .1) at (c .before .before .before .check .ensures))
 
 returns-2 : tie.Need-returns-2
-returns-2 c = unread-second _ _ _ _ _ (reads _ (rw (c .before .before .before .before .before .a .given .1) at (c .before .before .before .before .before .before .before .check .ensures))) (rw (c .before .e2 .given .1) at (c .before .before .before .check2 .ensures))
+returns-2 c =
+    let a′ = c .before .before .before .before .before .a in
+    let check′ = c .before .before .before .before .before .before .before .check in
+    unread-second _ _ _ _ _ (reads _ (rw (a′ .given .1) at (check′ .ensures))) (rw (c .before .e2 .given .1) at (c .before .before .before .check2 .ensures))
 
 same-length : tie.Need-same-length
 same-length c = search needs

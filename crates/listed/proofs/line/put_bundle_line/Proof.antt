@@ -39,7 +39,7 @@ add-b : tie.Need-add-b
 add-b c =
     let s = c .before .before .before .before .before .before .before .before .before .before .before .before in
     let p = bundle-put (s .args .k) (s .args .word .now) (s .args .n) (s .args .other .now) (s .args .m) (s .args .out .now) (s .pre) (c .before .before .before .before .before .before .put-labelled .ensures) in
-    omega (arith, room p, p .wrote .long, c .before .before .put-labelled2 .ensures .count, s .good)
+    omega (arith, room p, p .wrote .long, c .before .before .put-labelled2 .ensures .0, s .good)
 
 sub-put-labelled-2 : tie.Need-sub-put-labelled-2
 sub-put-labelled-2 c =
@@ -70,7 +70,7 @@ add-c c =
     let s = c .before .before .before .before .before .before .before .before .before .before .before .before .before .before .before .before in
     let p = bundle-put (s .args .k) (s .args .word .now) (s .args .n) (s .args .other .now) (s .args .m) (s .args .out .now) (s .pre) (c .before .before .before .before .before .before .before .before .before .before .put-labelled .ensures) in
     let q = next p _ _ (c .before .before .before .before .before .before .put-labelled2 .ensures) in
-    omega (arith, room q, q .wrote .long, c .before .before .put-labelled3 .ensures .count, s .good)
+    omega (arith, room q, q .wrote .long, c .before .before .put-labelled3 .ensures .0, s .good)
 
 slice-write-out : tie.Need-slice-write-out
 slice-write-out c =

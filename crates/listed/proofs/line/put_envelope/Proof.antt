@@ -42,7 +42,7 @@ add-b : tie.Need-add-b
 add-b c =
     let s = c .before .before .before .before .before .before .before .before .before .before .before in
     let p = envelope-put (s .args .k) (s .args .number) (s .args .out .now) (s .pre) (c .before .before .before .before .before .before .before .put-labelled .ensures) in
-    omega (arith, room p, p .wrote .long, c .before .before .put-labelled2 .ensures .count, s .good)
+    omega (arith, room p, p .wrote .long, c .before .before .put-labelled2 .ensures .0, s .good)
 
 slice-write-out : tie.Need-slice-write-out
 slice-write-out c =

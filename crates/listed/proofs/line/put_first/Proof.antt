@@ -7,7 +7,7 @@ use Rattle.format.specs.Answer.{fail}
 use Rattle.reader.specs.declared.checking.Checked.{Checked}
 use Rattle.reader.specs.Answers.{answerOf}
 use Rattle.listed.specs.Text.{at-word, bundleLine, firstLine, refused-word}
-use Rattle.listed.specs.Promises.{Puts}
+use Rattle.wire.specs.Output.{Puts}
 use borrow.Author.Needs.{needs}
 use Rattle.listed.proofs.line.put_first.Statement.{statement}
 use Rattle.listed.proofs.line.put_first.Tie as tie

@@ -39,7 +39,7 @@ add-b : tie.Need-add-b
 add-b c =
     let s = c .before .before .before .before .before .before .before .before .before .before in
     let p = index-put (s .args .i) (s .args .row) (s .args .out .now) (s .pre) (c .before .before .before .before .before .before .before .put-ended .ensures) in
-    omega (arith, room p, p .wrote .long, c .before .before .put-ended2 .ensures .count, s .good)
+    omega (arith, room p, p .wrote .long, c .before .before .put-ended2 .ensures .0, s .good)
 
 sub-put-ended-2 : tie.Need-sub-put-ended-2
 sub-put-ended-2 c =
@@ -70,7 +70,7 @@ add-c c =
     let s = c .before .before .before .before .before .before .before .before .before .before .before .before .before .before in
     let p = index-put (s .args .i) (s .args .row) (s .args .out .now) (s .pre) (c .before .before .before .before .before .before .before .before .before .before .before .put-ended .ensures) in
     let q = next p _ _ (c .before .before .before .before .before .before .put-ended2 .ensures) in
-    omega (arith, room q, q .wrote .long, c .before .before .put-ended3 .ensures .count, s .good)
+    omega (arith, room q, q .wrote .long, c .before .before .put-ended3 .ensures .0, s .good)
 
 sub-put-ended-3 : tie.Need-sub-put-ended-3
 sub-put-ended-3 c =
@@ -105,7 +105,7 @@ add-result c =
     let p = index-put (s .args .i) (s .args .row) (s .args .out .now) (s .pre) (c .before .before .before .before .before .before .before .before .before .before .before .before .before .before .before .put-ended .ensures) in
     let q = next p _ _ (c .before .before .before .before .before .before .before .before .before .before .put-ended2 .ensures) in
     let r = next q _ _ (c .before .before .before .before .before .before .put-ended3 .ensures) in
-    omega (arith, room r, r .wrote .long, c .before .before .put-ended4 .ensures .count, s .good)
+    omega (arith, room r, r .wrote .long, c .before .before .put-ended4 .ensures .0, s .good)
 
 same-length : tie.Need-same-length
 same-length c = search needs

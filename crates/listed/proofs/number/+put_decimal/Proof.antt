@@ -204,7 +204,7 @@ put-decimal-returns-3 t c =
     let s = c .before .before .before .before .before .before .before in
     let q = last-digits (s .args .n) (s .args .out .now) (s .pre .1) (c .before .before .before .before .if2 .left) (s .fits .n .fits) _ _ (c .before .before .put-decimal .ensures) in
     let e = ends (next-byte (next-byte q)) in
-    record { count = omega (arith, e .count); whole = e .whole }
+    (omega (arith, e .0), e .1)
 
 pub +put-decimal-spec : {M : Type 1} → statement M
 +put-decimal-spec = close μ-put-decimal λ t. put-decimal-lts.spec (

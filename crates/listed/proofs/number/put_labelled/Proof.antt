@@ -36,7 +36,7 @@ add-result : tie.Need-add-result
 add-result c =
     let s = c .before .before .before .before .before .before .before .before .before .before in
     let q = word-put (s .args .word .now) (s .args .n) (s .args .out .now) (s .pre) (c .before .before .before .before .before .before .copy .ensures) in
-    omega (arith, room q, q .wrote .long, c .before .before .put-decimal .ensures .count, s .good)
+    omega (arith, room q, q .wrote .long, c .before .before .put-decimal .ensures .0, s .good)
 
 same-length : tie.Need-same-length
 same-length c = search needs

@@ -92,7 +92,7 @@ add-at c =
     let count = row-count′ .ensures ∙ row-count (s .args .bundle .now) (read′ .result) (read′ .ensures) in
     let g : loop′ .i < length (printed (s .args .bundle .now)) = omega (arith, count, loop-test′ .taken) in
     let q = turn (s .args .bundle .now) (read′ .result) (read′ .ensures) (loop′ .inv .2) g in
-    omega (arith, room q, loop′ .inv .2 .wrote .long, p .wrote .long, c .before .before .put-row .ensures .count, s .good)
+    omega (arith, room q, loop′ .inv .2 .wrote .long, p .wrote .long, c .before .before .put-row .ensures .0, s .good)
 
 add-i : tie.Need-add-i Inv-loop μ-loop
 add-i c = omega (arith, c .before .before .before .before .before .loop-test .taken)

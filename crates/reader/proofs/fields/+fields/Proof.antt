@@ -9,7 +9,7 @@ use borrow.Author.Needs.{needs}
 use Rattle.format.specs.Limits.{max-rows}
 use Rattle.format.specs.Place.{Place}
 use Rattle.format.specs.Reading.{Options, State}
-use Rattle.reader.specs.Judging.{Stands}
+use Rattle.items.specs.Judging.{Stands}
 use Rattle.reader.specs.Lanes.{Lane, Leads}
 use Rattle.reader.proofs.Turns.{cursor, Along, at-place, start-field, field-bad, field-full, field-value, field-symbol, field-key, field-new-key, field-held-bad, field-held-end, field-held-good, along-value, along-key, along-held}
 use Prim.Native.Nat.{ℕ, _<_}
@@ -18,7 +18,7 @@ use borrow.Fn.PlainCycle.{Measures, is, falls, and}
 use Rattle.reader.proofs.fields.fields.Reads as fields
 use Rattle.reader.proofs.fields.fields.Kinds as fields-kinds
 use Rattle.reader.proofs.fields.+fields.Lts-fields as fields-lts
-use Rattle.reader.proofs.item.one.Reads as one-reads
+use Rattle.items.proofs.item.one.Reads as one-reads
 use Rattle.reader.proofs.fields.+fields.{statement}
 use Rattle.reader.proofs.fields.+fields.Tie.{close as done}
 

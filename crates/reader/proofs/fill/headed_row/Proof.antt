@@ -2,8 +2,8 @@
 use native.Mathlib.Omega.{arith}
 use mathlib.Core.Path.{refl, sym, _∙_}
 use mathlib.Core.Logic.{⊎-elim}
-use Rattle.reader.proofs.Flat.{integer-code}
-use Rattle.reader.proofs.Contents.{form-coded, form-bytes}
+use Rattle.items.proofs.Flat.{integer-code}
+use Rattle.items.proofs.Contents.{form-coded, form-bytes}
 use Rattle.reader.proofs.FillLaws.{by-form, by-reference, by-fixed}
 use borrow.Author.Needs.{needs}
 use Rattle.reader.proofs.fill.headed_row.Statement.{statement}
@@ -16,18 +16,27 @@ is-integer-requires : tie.Need-is-integer-requires
 is-integer-requires c κs = search needs
 
 fixed-row-requires : tie.Need-fixed-row-requires
-fixed-row-requires c κs = let w = integer-code (c .before .before .before .args .h) (sym (c .before .is-integer .ensures) ∙ c .if1 .taken) in omega (arith, w .1)
+fixed-row-requires c κs =
+    let w = integer-code (c .before .before .before .args .h) (sym (c .before .is-integer .ensures) ∙ c .if1 .taken) in
+    omega (arith, w .1)
+
+row-at-requires : tie.Need-row-at-requires
+row-at-requires c κs = search needs
 
 returns : tie.Need-returns
 returns c =
-    let w = integer-code (c .before .before .before .before .args .h) (sym (c .before .before .is-integer .ensures) ∙ c .before .if1 .taken) in
-    by-fixed _ _ _ _ (omega (arith, w .1)) (λ e. absurd (omega (arith, w .0))) (c .fixed-row .ensures)
+    let s = c .before .before .before .before .before in
+    let w = integer-code (s .args .h) (sym (c .before .before .before .is-integer .ensures) ∙ c .before .before .if1 .taken) in
+    rw (c .row-at .ensures) (by-fixed _ _ _ _ (omega (arith, w .1)) (λ e. absurd (omega (arith, w .0))) (c .before .fixed-row .ensures))
 
 entry-row-requires : tie.Need-entry-row-requires
 entry-row-requires c κs = search needs
 
+row-at-requires-2 : tie.Need-row-at-requires-2
+row-at-requires-2 c κs = search needs
+
 returns-2 : tie.Need-returns-2
-returns-2 c = by-reference _ _ _ _ (c .before .before .if2 .taken) (c .entry-row .ensures)
+returns-2 c = rw (c .row-at2 .ensures) (by-reference _ _ _ _ (c .before .before .before .if2 .taken) (c .before .entry-row .ensures))
 
 add-content-row : tie.Need-add-content-row
 add-content-row c = search needs
@@ -36,7 +45,9 @@ content-row-requires : tie.Need-content-row-requires
 content-row-requires c κs = search needs
 
 returns-3 : tie.Need-returns-3
-returns-3 c = by-form _ _ _ _ (form-coded _ _ refl (c .before .before .if3 .taken) (omega (arith, c .before .before .before .if2 .left, c .before .before .before .before .before .before .before .pre .1))) (c .content-row .ensures)
+returns-3 c =
+    let s = c .before .before .before .before .before .before .before in
+    by-form _ _ _ _ (form-coded _ _ refl (c .before .before .if3 .taken) (omega (arith, c .before .before .before .if2 .left, s .pre .1))) (c .content-row .ensures)
 
 content-row-requires-2 : tie.Need-content-row-requires-2
 content-row-requires-2 c κs = search needs
@@ -47,8 +58,11 @@ returns-4 c = by-form _ _ _ _ (form-bytes _ (c .before .before .before .if4 .tak
 fixed-row-requires-2 : tie.Need-fixed-row-requires-2
 fixed-row-requires-2 c κs = search needs
 
+row-at-requires-3 : tie.Need-row-at-requires-3
+row-at-requires-3 c κs = search needs
+
 returns-5 : tie.Need-returns-5
-returns-5 c = by-fixed _ _ _ _ (omega (arith, c .before .before .if3 .left)) (λ e. ⊎-elim (λ t. omega arith) (λ t. omega arith) (c .before .if4 .came)) (c .fixed-row2 .ensures)
+returns-5 c = rw (c .row-at3 .ensures) (by-fixed _ _ _ _ (omega (arith, c .before .before .before .if3 .left)) (λ e. ⊎-elim (λ t. omega arith) (λ t. omega arith) (c .before .before .if4 .came)) (c .before .fixed-row2 .ensures))
 
 pub headed-row-spec : {M : Type 1} → statement M
 headed-row-spec =
@@ -57,8 +71,10 @@ headed-row-spec =
     add-next
     is-integer-requires
     fixed-row-requires
+    row-at-requires
     returns
     entry-row-requires
+    row-at-requires-2
     returns-2
     add-content-row
     content-row-requires
@@ -66,4 +82,5 @@ headed-row-spec =
     content-row-requires-2
     returns-4
     fixed-row-requires-2
+    row-at-requires-3
     returns-5)

@@ -1,6 +1,6 @@
 -- `writer::judging::begin` meets its contract. Assumes nothing.
 use mathlib.Core.Path.{refl}
-use Rattle.writer.specs.Steps.{begun}
+use Rattle.writer.specs.Verdict.{begun}
 use Rattle.writer.proofs.judging.begin.Statement.{statement}
 use Rattle.writer.proofs.judging.begin.Tie as tie
 

@@ -50,24 +50,24 @@ use denote.Exit.{yes}
 use Rattle.format.specs.declared.row.Row.{Row}
 use Rattle.format.proofs.row.Row as T
 use Rattle.format.proofs.row.Row.Laws as T′
-use Rattle.writer.specs.declared.state.State.{State}
-use Rattle.writer.specs.Steps.{begun}
-use Rattle.writer.specs.Judging.{After, Next, Judging, Verdict}
+use Rattle.rows.specs.declared.state.State.{State}
+use Rattle.rows.specs.Judging.{After, Next}
+use Rattle.writer.specs.Verdict.{begun, Judging, Verdict}
 use Rattle.format.proofs.WalkRest.{after}
 use Rattle.format.proofs.WalkArray.{repeat-is, array-in, array-out}
 use Rattle.format.proofs.WalkBorrow.{Ref, borrows, gives-back, passes, takes-back}
-use Rattle.writer.proofs.RowLaws.{blank}
+use Rattle.writer.proofs.Loop.{blank}
 use Rattle.writer.proofs.Loop.{judging-start, judging-ready, judging-within, judging-on, judging-off}
-use Rattle.writer.proofs.state.State as S
-use Rattle.writer.proofs.state.State.Laws as S′
+use Rattle.rows.proofs.state.State as S
+use Rattle.rows.proofs.state.State.Laws as S′
 use Rattle.writer.proofs.judging.begin as begin′
 use Rattle.writer.proofs.judging.begin.Symbol as begin-def
 use Rattle.writer.proofs.judging.begin.Symbol.{name as #begin}
 use Rattle.writer.proofs.judging.begin.Met as begin-thm
-use Rattle.writer.proofs.row.step as step′
-use Rattle.writer.proofs.row.step.Symbol as step-def
-use Rattle.writer.proofs.row.step.Symbol.{name as #step}
-use Rattle.writer.proofs.row.step.Met as step-thm
+use Rattle.rows.proofs.step as step′
+use Rattle.rows.proofs.step.Symbol as step-def
+use Rattle.rows.proofs.step.Symbol.{name as #step}
+use Rattle.rows.proofs.step.Met as step-thm
 use Rattle.writer.proofs.judging.judge.Key.{name as #judge}
 use Rattle.writer.proofs.judging.judge as judge
 use Rattle.writer.proofs.judging.judge.Statement as stated
@@ -465,4 +465,4 @@ judge-spec 𝓤 H 𝓜 𝓖 𝓡 =
     (tables 𝓤 H 𝓜 𝓡 code.env .C) (tables 𝓤 H 𝓜 𝓡 code.env .Λ) #judge code.function (code.unfolded 𝓤 H 𝓜 𝓡)
     (judge-meets 𝓤 H (𝓖 .A) (givenOf 𝓤 H 𝓜 𝓖) (𝓜 .mem) (𝓡 .run) (tablesOf 𝓤 H 𝓜 (tables 𝓤 H 𝓜 𝓡 code.env))
     (cited 𝓤 H (Begin 𝓤 H (𝓖 .A) (𝓜 .mem) (𝓡 .run)) 𝓜 𝓡 code.env #begin begin-def.routine code.calls-writer·judging·begin (begin-thm.met 𝓤 H 𝓜 𝓖 𝓡))
-    (cited 𝓤 H (Step 𝓤 H (𝓖 .A) (𝓜 .mem) (𝓡 .run)) 𝓜 𝓡 code.env #step step-def.routine code.calls-writer·row·step (step-thm.met 𝓤 H 𝓜 𝓖 𝓡)))
+    (cited 𝓤 H (Step 𝓤 H (𝓖 .A) (𝓜 .mem) (𝓡 .run)) 𝓜 𝓡 code.env #step step-def.routine code.calls-rows·step (step-thm.met 𝓤 H 𝓜 𝓖 𝓡)))

@@ -56,12 +56,13 @@ use Rattle.format.specs.Canonical.{canonical}
 use Rattle.format.specs.Rows.{itemAt, itemsAt}
 use Rattle.format.proofs.row.Row as T
 use Rattle.format.proofs.row.Row.Laws as T′
-use Rattle.encoder.specs.Output.{Puts, PutsAt}
+use Rattle.wire.specs.Output.{Puts}
+use Rattle.encoder.specs.Output.{PutsAt}
 use Rattle.encoder.specs.Plan.{encodedAt}
 use Rattle.writer.specs.Putting.{Putting}
 use Rattle.format.proofs.WalkRest.{after}
 use Rattle.format.proofs.WalkSlice.{Aside, borrows-again, comes-back}
-use Rattle.writer.proofs.RowLaws.{blank}
+use Rattle.writer.proofs.Loop.{blank}
 use Rattle.writer.proofs.PutLaws.{next-asks, put-all, put-more, put-none}
 use Rattle.writer.proofs.putting.put_next as put-next
 use Rattle.writer.proofs.putting.put_next.Symbol as put-next-def

@@ -1,7 +1,7 @@
 -- `writer::putting::put_row` meets its contract: a name, a fixed item, or a header with what follows. Assumes nothing.
 use mathlib.Core.Path.{sym, _∙_}
 use native.Mathlib.Omega.{arith}
-use Rattle.writer.proofs.RowLaws.{content-text, kind-most}
+use Rattle.rows.proofs.RowLaws.{content-text, kind-most}
 use Rattle.writer.proofs.OutputLaws.{at-name, at-fixed, at-header, at-plain}
 use borrow.Author.Needs.{needs}
 use Rattle.writer.proofs.putting.put_row.Statement.{statement}

@@ -51,17 +51,17 @@ use Rattle.format.specs.Canonical.{canonical}
 use Rattle.format.specs.Rows.{itemsAt}
 use Rattle.format.specs.Writing.{writing}
 use Rattle.format.proofs.row.Row as T
-use Rattle.writer.specs.declared.state.State.{State}
+use Rattle.rows.specs.declared.state.State.{State}
 use Rattle.format.specs.declared.written.Written.{Written}
 use Rattle.writer.specs.Putting.{Putting}
-use Rattle.writer.specs.Judging.{Verdict}
+use Rattle.writer.specs.Verdict.{Verdict}
 use Rattle.format.specs.Written.{answerOf}
 use Rattle.writer.specs.Extent.{limitOf, rowsIn}
 use Rattle.format.proofs.WalkArray.{repeat-is, array-in, array-out}
 use Rattle.format.proofs.WalkCall.{calls-plain, array-long}
 use Rattle.writer.proofs.WriteLaws.{judge-asks, put-asks, put-leaves}
-use Rattle.writer.proofs.state.State as S
-use Rattle.writer.proofs.state.State.Laws as S′
+use Rattle.rows.proofs.state.State as S
+use Rattle.rows.proofs.state.State.Laws as S′
 use Rattle.format.proofs.written.Written as N
 use Rattle.format.proofs.written.Written.Laws as N′
 use Rattle.writer.proofs.writing.limit as limit

@@ -1,0 +1,7 @@
+-- Laws for one item.
+pub mod Ladder
+pub mod Entries
+pub mod Flat
+pub mod Contents
+pub mod NameEntry
+pub mod Heads

@@ -1,0 +1,123 @@
+-- How offsets, counts and the packed table stand for the state of `Reading`, and what the answers for one item mean.
+use mathlib.Core.Path.{_≡_}
+use mathlib.Core.Logic.{_≢_}
+use mathlib.Core.Bool.{Bool, true, false}
+use mathlib.Core.List.{List, [], _∷_, _++_, map}
+use Prim.Native.Nat.{ℕ, _+_, _-_, _≤_, _<_, min}
+use lib.Dec.{leb, eqb}
+use lib.ListN.{length, take, drop}
+use Rattle.format.specs.declared.header.Header.{Header}
+use Rattle.format.specs.declared.error.Error.the-variants.{NotCanonical, TooManyEntries}
+use Rattle.format.specs.Choice.{pick, _&&_, _||_}
+use Rattle.format.specs.Limits.{max-rows}
+use Rattle.format.specs.Error.{codeOf}
+use Rattle.format.specs.Answer.{Answer, good, fail}
+use Rattle.format.specs.Header.{isLong, isNegativeAlias}
+use Rattle.format.specs.Names.{index, isSome}
+use Rattle.format.specs.Place.{Place, ended}
+use Rattle.format.specs.Reading.{Options, State, Found, itemsOf, content, formOf}
+use Rattle.symbols.specs.Entry.{startIn, nameIn}
+use Rattle.symbols.specs.Chains.{Chained}
+use Rattle.items.specs.declared.item.Out.{Out}
+use Rattle.items.specs.declared.item.Out.the-variants as out
+
+-- ---- the symbol table
+
+-- The entry that a packed number stands for.
+unfoldable pub foundIn : List ℕ → ℕ → Found
+foundIn s e = record { item = nameIn s s e; start = startIn e }
+
+unfoldable pub entriesOf : List ℕ → List ℕ → ℕ → List Found
+entriesOf s es names = map (foundIn s) (take names es)
+
+-- A table within its limit. Strict reading has chains too, and so no name twice.
+pub record Fair (strict : Bool) (s es links : List ℕ) (names : ℕ) : Type 0 where
+  pub few : names ≤ 256
+  pub size : length es ≡ 256
+  pub chained : strict ≡ true → Chained s s es links names
+
+-- ---- one item
+
+-- An offset, a count of entries and whether a key was read (1) stand for a state.
+pub record Stands (s es : List ℕ) (at names keyed : ℕ) (a : State) : Type 0 where
+  pub offset : a .at ≡ at
+  pub key : a .place .keyed ≡ eqb keyed 1
+  pub entries : a .entries ≡ entriesOf s es names
+
+-- From one offset on to another within the bytes, with a table.
+pub record Moved (strict : Bool) (s es links : List ℕ) (at next names : ℕ) : Type 0 where
+  pub on : at < next
+  pub within : next ≤ length s
+  pub fair : Fair strict s es links names
+
+-- What the code needs of an answer.
+abbrev pub Moves : Bool → List ℕ → List ℕ → List ℕ → ℕ → ℕ → ℕ → Out → Type 0
+Moves strict s es links at names depth (out.Bad e) = Unit
+Moves strict s es links at names depth (out.Value u) = Moved strict s es links at u names
+Moves strict s es links at names depth (out.Key u) = Moved strict s es links at u names
+Moves strict s es links at names depth (out.NewSymbol u) = Moved strict s es links at u (names + 1)
+Moves strict s es links at names depth (out.NewKey u) = Moved strict s es links at u (names + 1)
+Moves strict s es links at names depth (out.Container n u) = (0 < depth) × (0 < n .0) × Moved strict s es links at u names
+
+-- The last rule: there is a row for the item.
+unfoldable pub rowed : Options → State → State → Answer State
+rowed o a next = pick (leb (min max-rows (o .capacity)) (length (a .found))) (fail 7 (a .at)) (good next)
+
+abbrev pub spot : List ℕ → Bool → ℕ → Place
+spot k b f = record { opened = k; keyed = b; fields = f }
+
+-- All rules but the last pass: an answer is a state that offset and counts stand for, at a place, if there is a row for it.
+pub record Goes (o : Options) (s es : List ℕ) (at names keyed : ℕ) (p : Place) (a : State) (r : Answer State) : Type 0 where
+  pub next : State
+  pub is : r ≡ rowed o a next
+  pub stands : Stands s es at names keyed next
+  pub place : next .place ≡ p
+  pub row : length (next .found) ≡ length (a .found) + 1
+
+abbrev pub Judged : Options → List ℕ → List ℕ → ℕ → State → Answer State → Out → Type 0
+Judged o s es names a r (out.Bad e) = r ≡ fail (codeOf e) (a .at)
+Judged o s es names a r (out.Value u) = Goes o s es u names 0 (ended (a .place .opened) (a .place .fields)) a r
+Judged o s es names a r (out.Key u) = Goes o s es u names 1 (spot (a .place .opened) true (a .place .fields)) a r
+Judged o s es names a r (out.NewSymbol u) = Goes o s es u (names + 1) 0 (ended (a .place .opened) (a .place .fields)) a r
+Judged o s es names a r (out.NewKey u) = Goes o s es u (names + 1) 1 (spot (a .place .opened) true (a .place .fields)) a r
+Judged o s es names a r (out.Container n u) = Goes o s es u names 0 (spot (n .0 ∷ a .place .opened) false (a .place .fields)) a r
+
+-- ---- headers
+
+-- A header at an offset that passed the first rule, and the offset after it.
+pub record Case (s es : List ℕ) (at names keyed next : ℕ) (h : Header) (o : Options) (a : State) : Type 0 where
+  pub short : o .strict && (isLong h || isNegativeAlias h) ≡ false
+  pub stands : Stands s es at names keyed a
+  pub size : next ≡ at + h .size
+
+-- A header of bytes or of a string.
+pub record Body (h : Header) : Type 0 where
+  pub kind : ℕ
+  pub form : formOf h ≡ content kind
+  pub low : kind < 10
+  pub plain : kind ≢ 8
+  pub text : leb 9 kind ≡ eqb (h .code) 4
+
+-- A header of a symbol or a key in full.
+pub record Name (h : Header) : Type 0 where
+  pub form : formOf h ≡ content (h .code + 5)
+  pub high : 5 ≤ h .code
+  pub last : h .code ≤ 6
+
+-- ---- a name in full
+
+abbrev pub partOf : List ℕ → ℕ → ℕ → ℕ → Found
+partOf s kind start n = record { item = record { kind = kind; number = n; content = take n (drop start s) }; start = start }
+
+unfoldable pub freshOf : ℕ → ℕ → Out
+freshOf kind next = pick (eqb kind 11) (out.NewKey next) (out.NewSymbol next)
+
+abbrev pub isKnown : List ℕ → List ℕ → ℕ → Found → Bool
+isKnown s es names x = isSome (index (x .item) (itemsOf (entriesOf s es names)))
+
+-- What the table says of a name in full from one offset to another: strictly, it stands there already; there is no entry left; or it is in.
+pub data Entered (strict : Bool) (s es es′ links′ : List ℕ) (names kind next e : ℕ) (r : Out) : Type 0 where
+  known : strict && isKnown s es names (partOf s kind next (e - next)) ≡ true → r ≡ out.Bad NotCanonical → Entered strict s es es′ links′ names kind next e r
+  full : strict && isKnown s es names (partOf s kind next (e - next)) ≡ false → 256 ≤ names → r ≡ out.Bad TooManyEntries → Entered strict s es es′ links′ names kind next e r
+  entered : strict && isKnown s es names (partOf s kind next (e - next)) ≡ false → names < 256 → r ≡ freshOf kind e
+      → entriesOf s es′ (names + 1) ≡ entriesOf s es names ++ (partOf s kind next (e - next) ∷ []) → Fair strict s es′ links′ (names + 1) → Entered strict s es es′ links′ names kind next e r

@@ -1,0 +1,42 @@
+-- `rewriter::putting::item` meets its contract: in a bundle that reads no header is cut. Assumes nothing.
+use Rattle.rewriter.proofs.Turns.{never-cut}
+use borrow.Author.Needs.{needs}
+use Rattle.rewriter.proofs.putting.item.Statement.{statement}
+use Rattle.rewriter.proofs.putting.item.Tie as tie
+
+header-at-requires : tie.Need-header-at-requires
+header-at-requires c κs = search needs
+
+enum-told : tie.Need-enum-told
+enum-told c = search needs
+
+enum-known-h : tie.Need-enum-known-h
+enum-known-h c = search needs
+
+put-next-requires : tie.Need-put-next-requires
+put-next-requires c κs =
+    let s = c .before .before .before .before .before .before .before in
+    (s .pre .0, rw (c .before .before .h .given .1) at (c .before .before .before .before .header-at .ensures))
+
+returns : tie.Need-returns
+returns c =
+    let s = c .before .before .before .before .before in
+    λ zs ws u old g p. never-cut _ (p .state) (p .reads) (rw (p .offset) (s .pre .1)) (rw (p .offset) (rw (c .enum-told .given .1) at (c .before .before .header-at .ensures)))
+
+same-length : tie.Need-same-length
+same-length c = search needs
+
+returns-2 : tie.Need-returns-2
+returns-2 c = search needs
+
+pub item-spec : {M : Type 1} → statement M
+item-spec =
+    tie.close
+    (tie.spec
+    header-at-requires
+    enum-told
+    enum-known-h
+    put-next-requires
+    returns
+    same-length
+    returns-2)

@@ -1,0 +1,57 @@
+// What the header of an item in a bundle that reads says of it.
+ghost use mathlib.Core.Path.{_≡_};
+ghost use mathlib.Core.List.{List};
+ghost use mathlib.Core.Option.{some};
+ghost use Prim.Native.Nat.{ℕ, _≤_};
+ghost use lib.Dec.{leb, ltb, eqb};
+ghost use lib.ListN.{length};
+ghost use Rattle.format.specs.Choice.{_&&_};
+ghost use Rattle.format.specs.Header.{header, headerOf};
+ghost use Rattle.rewriter.specs.Items.{numberOf};
+use format::Header;
+use wire::header::header_len;
+
+// An integer or a container?
+pub fn is_number(code: u8) -> bool
+    ensures { λ r. ⌜ r ≡ (leb 1 code && leb code 3) ⌝ }
+{
+    if code < 1 {
+        return false;
+    }
+    code <= 3
+}
+
+// Null, true, false or a float?
+pub fn is_fixed(code: u8, sz: u8) -> bool
+    ensures { λ r. ⌜ r ≡ (eqb code 0 && ltb sz 5) ⌝ }
+{
+    if code != 0 {
+        return false;
+    }
+    sz < 5
+}
+
+// The number of an integer or a container: the negative alias stands for the least integer.
+pub fn number_of(code: u8, p: u64) -> u64
+    ensures { λ r. ⌜ r ≡ numberOf code p ⌝ }
+{
+    // the payload first: signs of integers cannot be foretold
+    if p == 18446744073709551615 {
+        if code == 2 {
+            return 18446744073709551614;
+        }
+    }
+    p
+}
+
+// The length of the shortest header in place of one that was read: one byte stays one byte.
+pub fn shortest_len(h: Header) -> usize
+    requires { ⌜ ((bs : List ℕ) × (some h ≡ headerOf bs)) ⌝ }
+    ensures { λ r. ⌜ (r ≡ length (header (h .code) (h .payload))) × (r ≤ 9) ⌝ }
+{
+    let size = h.size;
+    if size == 1 {
+        return 1;
+    }
+    header_len(h.code, h.payload)
+}

@@ -1,0 +1,219 @@
+-- One row judged: which rule refuses it, and what is known after it. Assumes nothing.
+use mathlib.Core.Path.{_≡_, refl, ap, sym, subst, _∙_}
+use mathlib.Core.Logic.{_≢_}
+use mathlib.Core.Bool.{true, false, not}
+use mathlib.Core.List.{List, [], _∷_, _++_, append-assoc}
+use mathlib.Core.Option.{none, some}
+use Prim.Native.Nat.{ℕ, _+_, _^_, _≤_, _<_}
+use native.Mathlib.Numerals.{add-one}
+use native.Mathlib.Omega.{arith}
+use lib.Dec.{eqb, ltb, leb}
+use lib.ListN.{length, set, length-append, length-map}
+use Rattle.format.specs.declared.row.Row.{Row}
+use Rattle.format.specs.Choice.{pick, _&&_, _||_}
+use Rattle.format.specs.Answer.{failure, rule, first, fail, unless, then}
+use Rattle.format.specs.Utf8.{utf8}
+use Rattle.format.specs.Item.{Item, isText, isName, isKey, isContainer}
+use Rattle.format.specs.Canonical.{full}
+use Rattle.format.specs.Names.{noted}
+use Rattle.format.specs.Place.{keyAfterKey, tooDeep, moved}
+use Rattle.format.specs.Rows.{itemAt}
+use Rattle.format.specs.Writing.{isBad, Progress, begin, withItem, rowRules, judge}
+use Rattle.format.proofs.Tests.{cases, eqb-yes, eqb-no, leb-no, ltb-yes, ltb-no, and-no-left, and-no-right, pick-yes, pick-no, applied-none}
+use Rattle.format.proofs.Names.{noted-plain}
+use Rattle.symbols.proofs.ChainLaws.{length-names}
+use Rattle.format.proofs.Lists.{map-append, all-append}
+use Rattle.rows.specs.declared.state.State.{State}
+use Rattle.rows.specs.Stack.{bottom, Stands}
+use Rattle.rows.specs.Steps.{refused, valued, keyedBy, namedBy, openedBy}
+use Rattle.encoder.specs.Plan.{Measured}
+use Rattle.rows.specs.Judging.{isRowError, After, Ready, Next}
+use Rattle.rows.proofs.StackLaws.{opened-length, stands-value, stands-key, stands-open}
+use Rattle.encoder.proofs.MeasureLaws.{names-more, measure-plain}
+
+-- ---- the rules, in their order
+
+module _ (text : List ℕ) (p : Progress) (r : Row) where
+  abbrev x : Item
+  x = itemAt text r
+
+  pub rule-9 : isBad text r ≡ true → first (rowRules text p r) ≡ some (failure 9 (p .row))
+  unfolding rowRules first rule pick
+  rule-9 h = rw h
+
+  module _ (fine : isBad text r ≡ false) where
+    pub rule-5 : keyAfterKey (p .place) (itemAt text r) ≡ true → first (rowRules text p r) ≡ some (failure 5 (p .row))
+    unfolding rowRules first rule pick
+    rule-5 h = rw (fine, h)
+
+    module _ (keys : keyAfterKey (p .place) (itemAt text r) ≡ false) where
+      pub rule-6 : tooDeep (p .place) (itemAt text r) ≡ true → first (rowRules text p r) ≡ some (failure 6 (p .row))
+      unfolding rowRules first rule pick
+      rule-6 h = rw (fine, keys, h)
+
+      module _ (flat : tooDeep (p .place) (itemAt text r) ≡ false) where
+        pub rule-3 : isText (itemAt text r) && not (utf8 (itemAt text r .content)) ≡ true → first (rowRules text p r) ≡ some (failure 3 (p .row))
+        unfolding rowRules first rule pick
+        rule-3 h = rw (fine, keys, flat, h)
+
+        module _ (texts : isText (itemAt text r) && not (utf8 (itemAt text r .content)) ≡ false) where
+          pub rule-8 : 256 < length (noted (itemAt text r) (p .names)) → first (rowRules text p r) ≡ some (failure 8 (p .row))
+          unfolding rowRules first rule pick withItem
+          rule-8 h = rw (fine, keys, flat, texts, ltb-yes h)
+
+          pub rule-none : length (noted (itemAt text r) (p .names)) ≤ 256 → first (rowRules text p r) ≡ none
+          unfolding rowRules first rule pick withItem
+          rule-none h = rw (fine, keys, flat, texts, ltb-no h)
+
+pub error-9 : isRowError 9 ≡ true
+unfolding isRowError _||_
+error-9 = refl
+
+pub error-5 : isRowError 5 ≡ true
+unfolding isRowError _||_
+error-5 = refl
+
+pub error-6 : isRowError 6 ≡ true
+unfolding isRowError _||_
+error-6 = refl
+
+pub error-3 : isRowError 3 ≡ true
+unfolding isRowError _||_
+error-3 = refl
+
+pub error-8 : isRowError 8 ≡ true
+unfolding isRowError _||_
+error-8 = refl
+
+-- ---- one row more
+
+module _ (text : List ℕ) (p : Progress) (r : Row) where
+  judged-bad : (n : ℕ) → first (rowRules text p r) ≡ some (failure n (p .row)) → (rest : List Row) → judge text p (r ∷ rest) ≡ fail n (p .row)
+  unfolding judge then unless fail
+  judged-bad n e rest = rw e
+
+  module _ (e : first (rowRules text p r) ≡ none) where
+    judged-good : (rest : List Row) → judge text p (r ∷ rest) ≡ judge text (withItem p (itemAt text r)) rest
+    unfolding judge then unless
+    judged-good rest = rw e
+
+    passed : isBad text r ≡ false
+    unfolding rowRules rule
+    passed = applied-none (rowRules text p r) e .0
+
+module _ {text es links st plan : List ℕ} {xs : List Row} {s : State} (a : After text es links st plan xs s) (r : Row) where
+  -- it is refused, whatever became of the tables
+  pub refuse-next : {es′ links′ st′ plan′ : List ℕ} (n : ℕ) {t : State} → t ≡ refused s n → (n ≡ 0 → ⊥) → isRowError n ≡ true
+      → first (rowRules text (a .progress) r) ≡ some (failure n (a .progress .row)) → Next text es′ links′ st′ plan′ xs r s t
+  unfolding refused
+  refuse-next n e nz known rules =
+      rw e
+      (record {
+        taken = λ z. absurd (nz z);
+        refused = λ _. (refl, (known, λ rest. a .run (r ∷ rest) ∙ judged-bad text (a .progress) r n rules rest ∙ ap (fail n) (a .row)));
+      })
+
+  -- it is taken
+  pub take-next : {es′ links′ st′ plan′ : List ℕ} (t : State) → first (rowRules text (a .progress) r) ≡ none
+      → t .error ≡ 0 → t .row ≡ s .row + 1 → t .end ≡ s .end → t .size ≤ s .size + 16393
+      → Stands st′ (t .depth) (t .left) (t .keyed) (t .row) (moved (a .progress .place) (itemAt text r))
+      → Measured 1533 text text es′ links′ plan′ (a .progress .items ++ (itemAt text r ∷ [])) (t .names) (t .size)
+      → Next text es′ links′ st′ plan′ xs r s t
+  unfolding withItem
+  take-next t rules e0 er ee small stands measured =
+      record {
+        taken = λ _. (
+          record {
+            progress = withItem (a .progress) x;
+            run = λ rest. ap (judge text begin) (append-assoc xs (r ∷ []) rest) ∙ a .run (r ∷ rest) ∙ judged-good text (a .progress) r rules rest;
+            fine = all-append _ xs (r ∷ []) (a .fine) (passed text (a .progress) r rules, tt);
+            items = ap (λ (l : List Item). l ++ (x ∷ [])) (a .items) ∙ sym (map-append (itemAt text) xs (r ∷ []));
+            names = ap (noted x) (a .names) ∙ sym (names-more (a .progress .items) x);
+            row = sym (add-one (a .progress .row)) ∙ omega (arith, a .row);
+            rows = omega (arith, length-append xs (r ∷ []), a .rows);
+            small = omega (arith, a .small);
+            stands = stands;
+            measured = measured;
+          },
+          (er, ee),
+        );
+        refused = λ nz. absurd (nz e0);
+      }
+    where
+      x : Item
+      x = itemAt text r
+
+-- The same for an equal row.
+pub next-row : {text es links st plan : List ℕ} {xs : List Row} {q r : Row} {s t : State} → q ≡ r → Next text es links st plan xs q s t → Next text es links st plan xs r s t
+next-row {text} {es} {links} {st} {plan} {xs} {q} {r} {s} {t} e = subst (λ (z : Row). Next text es links st plan xs z s t) e
+
+-- A state that is ready takes one item more.
+pub ready-more : {text st : List ℕ} {s : State} → Ready text st s → (n : ℕ) → n ≤ 16393
+    → (length st ≡ 32) × (s .depth ≤ 32) × (2 ≤ bottom st (s .depth) (s .left)) × (s .row + 1 < 2 ^ 64) × (s .size + n < 2 ^ 64)
+ready-more w n l = (w .stack, w .deep, w .top, omega (arith, w .row), omega (arith, w .small, w .row))
+
+module _ {text es links st plan : List ℕ} {xs : List Row} {s : State} (a : After text es links st plan xs s) (r : Row) where
+  pub value-next : {es′ links′ plan′ : List ℕ} (c n : ℕ) {t : State} → t ≡ valued st s c n → s .row < 1024 → n ≤ 16393
+      → first (rowRules text (a .progress) r) ≡ none → isKey (itemAt text r) ≡ false → isContainer (itemAt text r) && ltb 0 (r .number) ≡ false
+      → Measured 1533 text text es′ links′ plan′ (a .progress .items ++ (itemAt text r ∷ [])) c (s .size + n) → Next text es′ links′ st plan′ xs r s t
+  unfolding valued itemAt
+  value-next c n e lt l rules key box m = rw e (take-next a r (valued st s c n) rules refl refl refl (omega arith) (stands-value (a .stands) (itemAt text r) lt key box) m)
+
+  pub named-next : {es′ links′ plan′ : List ℕ} (c n : ℕ) {t : State} → t ≡ namedBy st s (r .kind) c n → s .row < 1024 → n ≤ 16393 → r .kind ≢ 8
+      → first (rowRules text (a .progress) r) ≡ none
+      → Measured 1533 text text es′ links′ plan′ (a .progress .items ++ (itemAt text r ∷ [])) c (s .size + n) → Next text es′ links′ st plan′ xs r s t
+  unfolding namedBy keyedBy itemAt isKey isContainer
+  named-next c n e lt l box rules m =
+      cases (eqb (r .kind) 11)
+      (λ k. rw (e ∙ pick-yes _ _ k) (take-next a r (keyedBy s c n) rules refl refl refl (omega arith) (stands-key (a .stands) (itemAt text r) k) m))
+      (λ k. value-next c n (e ∙ pick-no _ _ k) lt l rules k (and-no-left _ (eqb-no box)) m)
+
+  pub open-next : (n : ℕ) {st′ : List ℕ} {t : State} → t ≡ openedBy s (r .number) n → st′ ≡ set st (s .depth) (s .left) → s .depth < 32 → n ≤ 16393
+      → first (rowRules text (a .progress) r) ≡ none → isKey (itemAt text r) ≡ false → isContainer (itemAt text r) && ltb 0 (r .number) ≡ true
+      → Measured 1533 text text es links plan (a .progress .items ++ (itemAt text r ∷ [])) (s .names) (s .size + n) → Next text es links st′ plan xs r s t
+  unfolding openedBy itemAt
+  open-next n e f lt l rules key box m = rw (e, f) (take-next a r (openedBy s (r .number) n) rules refl refl refl (omega arith) (stands-open (a .stands) (itemAt text r) key box lt) m)
+
+  -- ---- what the rules ask
+
+  pub names-count : length (a .progress .names) ≡ s .names
+  names-count = ap length (a .names ∙ sym (a .measured .names)) ∙ length-names (a .measured .table .table)
+
+  pub items-count : length (a .progress .items) ≡ s .row
+  items-count = ap length (a .items) ∙ length-map xs (itemAt text) ∙ a .rows
+
+  pub keys-are : keyAfterKey (a .progress .place) (itemAt text r) ≡ (eqb (s .keyed) 1 && eqb (r .kind) 11)
+  unfolding itemAt isKey
+  keys-are = ap (λ b. b && eqb (r .kind) 11) (a .stands .key)
+
+  pub depth-is : tooDeep (a .progress .place) (itemAt text r) ≡ (eqb (r .kind) 8 && leb 32 (s .depth))
+  unfolding itemAt isContainer
+  depth-is = ap (λ n. eqb (r .kind) 8 && leb 32 n) (ap length (a .stands .opened) ∙ opened-length st (s .depth) (s .left))
+
+  pub no-container : r .kind ≢ 8 → isContainer (itemAt text r) && ltb 0 (r .number) ≡ false
+  unfolding itemAt isContainer
+  no-container n = and-no-left _ (eqb-no n)
+
+  pub a-container : r .kind ≡ 8 → isContainer (itemAt text r) && ltb 0 (r .number) ≡ ltb 0 (r .number)
+  unfolding itemAt isContainer _&&_
+  a-container e = rw (eqb-yes e)
+
+  -- ---- a row that is no name
+
+  module _ (lo : r .kind < 10) where
+    pub no-key : isKey (itemAt text r) ≡ false
+    unfolding itemAt isKey
+    no-key = eqb-no {a = r .kind} {b = 11} (λ e. omega arith)
+
+    pub no-keys : keyAfterKey (a .progress .place) (itemAt text r) ≡ false
+    no-keys = and-no-right _ no-key
+
+    pub no-name : isName (itemAt text r) ≡ false
+    unfolding itemAt isName
+    no-name = leb-no lo
+
+    pub few-names : length (noted (itemAt text r) (a .progress .names)) ≤ 256
+    few-names = omega (arith, ap length (noted-plain (itemAt text r) (a .progress .names) no-name), names-count, a .measured .table .table .few)
+
+    pub measured-plain : (n : ℕ) → s .row < 1024 → n ≡ length (full (itemAt text r)) → Measured 1533 text text es links plan (a .progress .items ++ (itemAt text r ∷ [])) (s .names) (s .size + n)
+    measured-plain n lt e = measure-plain (a .measured) (itemAt text r) (omega (arith, items-count)) n no-name e

@@ -1,0 +1,48 @@
+-- One row judged after others: what is known after those that were taken, and what one more comes to.
+use Prim.Native.Nat.{ℕ, _+_, _*_, _≤_, _<_}
+use mathlib.Core.Path.{_≡_}
+use mathlib.Core.Bool.{Bool, true, false}
+use mathlib.Core.List.{List, [], _∷_, _++_}
+use lib.Dec.{eqb}
+use lib.ListN.{length}
+use Rattle.format.specs.declared.row.Row.{Row}
+use Rattle.format.specs.Choice.{_||_}
+use Rattle.format.specs.Answer.{fail}
+use Rattle.format.specs.Names.{namesFrom}
+use Rattle.format.specs.WellFormed.{All}
+use Rattle.format.specs.Rows.{itemsAt}
+use Rattle.format.specs.Writing.{Progress, begin, isBad, judge}
+use Rattle.rows.specs.declared.state.State.{State}
+use Rattle.rows.specs.Stack.{bottom, Stands}
+use Rattle.encoder.specs.Plan.{Measured}
+
+-- The errors that a row by itself can be refused with.
+unfoldable pub isRowError : ℕ → Bool
+isRowError n = eqb n 9 || eqb n 5 || eqb n 6 || eqb n 3 || eqb n 8
+
+-- The rows xs were taken, and s is the state after them.
+pub record After (text es links st plan : List ℕ) (xs : List Row) (s : State) : Type 0 where
+  pub progress : Progress
+  pub run : (rest : List Row) → judge text begin (xs ++ rest) ≡ judge text progress rest
+  pub fine : All (λ (r : Row). isBad text r ≡ false) xs
+  pub items : progress .items ≡ itemsAt text xs
+  pub names : progress .names ≡ namesFrom [] (progress .items)
+  pub row : progress .row ≡ s .row
+  pub rows : length xs ≡ s .row
+  pub small : s .size ≤ s .row * 16393
+  pub stands : Stands st (s .depth) (s .left) (s .keyed) (s .row) (progress .place)
+  pub measured : Measured 1533 text text es links plan (progress .items) (s .names) (s .size)
+
+-- What a state is good for: one row more.
+pub record Ready (text st : List ℕ) (s : State) : Type 0 where
+  pub short : length text ≤ 16384
+  pub row : s .row < 1024
+  pub small : s .size ≤ s .row * 16393
+  pub stack : length st ≡ 32
+  pub deep : s .depth ≤ 32
+  pub top : 2 ≤ bottom st (s .depth) (s .left)
+
+-- One row more: taken, or refused.
+pub record Next (text es links st plan : List ℕ) (xs : List Row) (r : Row) (s t : State) : Type 0 where
+  pub taken : t .error ≡ 0 → After text es links st plan (xs ++ (r ∷ [])) t × ((t .row ≡ s .row + 1) × (t .end ≡ s .end))
+  pub refused : (t .error ≡ 0 → ⊥) → (t .end ≡ t .row) × ((isRowError (t .error) ≡ true) × ((rest : List Row) → judge text begin (xs ++ (r ∷ rest)) ≡ fail (t .error) (t .row)))

@@ -1,0 +1,6 @@
+-- What is known of rows judged so far, and of one row more.
+pub mod Stack
+pub mod Steps
+pub mod Rules
+pub mod Judging
+pub mod Names

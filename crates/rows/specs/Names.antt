@@ -1,0 +1,26 @@
+-- A row that is a name: what is known of it before it is looked up.
+use Prim.Native.Nat.{ℕ, _≤_, _<_}
+use mathlib.Core.Path.{_≡_}
+use mathlib.Core.Bool.{false}
+use mathlib.Core.List.{List}
+use lib.Dec.{eqb}
+use lib.ListN.{getD}
+use Rattle.format.specs.declared.row.Row.{Row}
+use Rattle.format.specs.Choice.{_&&_}
+use Rattle.format.specs.Writing.{isBad}
+use Rattle.symbols.specs.Entry.{kindIn, lengthIn, sideIn, startIn}
+use Rattle.rows.specs.declared.state.State.{State}
+
+-- An entry that stands for this part of the text: the same name, without looking at its bytes.
+pub record Placed (es : List ℕ) (count i kind start number : ℕ) : Type 0 where
+  pub known : i < count
+  pub kind-is : kindIn (getD es i 0) ≡ kind
+  pub side-is : sideIn (getD es i 0) ≡ 0
+  pub start-is : startIn (getD es i 0) ≡ start
+  pub length-is : lengthIn (getD es i 0) ≡ number
+
+-- A name that rules 9 and 5 let pass.
+pub record Naming (text : List ℕ) (s : State) (r : Row) : Type 0 where
+  pub name : 10 ≤ r .kind
+  pub fine : isBad text r ≡ false
+  pub alone : eqb (s .keyed) 1 && eqb (r .kind) 11 ≡ false

@@ -1,0 +1,45 @@
+// How far judging has come: small numbers that go by value.
+ghost use mathlib.Core.Path.{_≡_};
+ghost use Rattle.format.specs.Error.{codeOf};
+ghost use Rattle.rows.specs.Steps.{refused};
+use format::Error;
+
+pub struct State {
+    // rows taken, or the number of the row that is refused
+    pub row: usize,
+    // rows to take, or that number
+    pub end: usize,
+    // open containers
+    pub depth: usize,
+    // fields left in the innermost
+    pub left: u64,
+    // 1 where a key was taken and its value is due
+    pub keyed: usize,
+    // different names
+    pub names: usize,
+    // bytes of the canonical encoding
+    pub size: usize,
+    // 0, or the number of the error
+    pub error: usize,
+}
+
+impl State {
+    // More fields at the top than there can be rows.
+    pub const TOP: u64 = 1025;
+}
+
+// A row that is refused.
+pub fn refuse(s: State, e: Error) -> State
+    ensures { λ r. ⌜ r ≡ refused s (codeOf e) ⌝ }
+{
+    State {
+        row: s.row,
+        end: s.row,
+        depth: s.depth,
+        left: s.left,
+        keyed: s.keyed,
+        names: s.names,
+        size: s.size,
+        error: e.code() as usize,
+    }
+}

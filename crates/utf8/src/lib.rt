@@ -1,0 +1,8 @@
+// UTF-8 judged: of any text, and of names, which are short and mostly ASCII.
+mod ascii;
+mod bytewise;
+mod local;
+mod text;
+
+pub use text::is_utf8;
+pub use text::is_utf8_name;
