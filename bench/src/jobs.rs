@@ -1,7 +1,7 @@
 //! Lines of a job board: containers of seven keys with values.
 
-use crate::random::Random;
 use nachricht::Builder;
+use reference::generate::Random;
 
 const TITLES: [&str; 8] = [
     "Gärtner",
@@ -30,11 +30,11 @@ pub fn board(lines: usize, random: &mut Random) -> Builder {
 /// Adds a line, which has 15 items.
 fn line(board: &mut Builder, random: &mut Random) {
     board.container(7);
-    board.key("id").integer(random.below(1 << 24));
-    board.key("title").string(random.choice(&TITLES));
-    board.key("city").symbol(random.choice(&CITIES));
-    board.key("hours").integer(8 + random.below(33));
-    board.key("pay").integer(1_500 + random.below(6_000));
-    board.key("remote").boolean(random.below(2) == 0);
-    board.key("days ago").integer(random.below(60));
+    board.key("id").integer(random.below(1 << 24) as u64);
+    board.key("title").string(random.pick(&TITLES));
+    board.key("city").symbol(random.pick(&CITIES));
+    board.key("hours").integer(8 + random.below(33) as u64);
+    board.key("pay").integer(1_500 + random.below(6_000) as u64);
+    board.key("remote").boolean(random.one_in(2));
+    board.key("days ago").integer(random.below(60) as u64);
 }

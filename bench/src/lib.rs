@@ -5,6 +5,5 @@ pub mod calls;
 pub mod jobs;
 pub mod loose;
 pub mod messages;
-pub mod random;
 pub mod streams;
 pub mod timing;

@@ -2,6 +2,7 @@
 
 use nachricht::limits::MAX_ENTRIES;
 use nachricht::{Bundle, Item};
+use reference::generate::model::{fewest, header};
 use std::collections::HashMap;
 
 const POSITIVE: u8 = 1;
@@ -68,13 +69,8 @@ impl<'a> Encoder<'a> {
 
     /// A header with a payload of one byte more than need be, if there is such a header.
     fn header(&mut self, code: u8, payload: u64) {
-        let least = match payload {
-            0..=23 => 0,
-            _ => 8 - payload.leading_zeros() as usize / 8,
-        };
-        let width = (least + 1).min(8);
-        let lead = code << 5 | (23 + width as u8);
-        self.parts(&[lead], &payload.to_be_bytes()[8 - width..]);
+        let following = (fewest(code, payload) + 1).min(8);
+        self.bytes.extend(header(code, payload, following));
     }
 
     fn parts(&mut self, lead: &[u8], rest: &[u8]) {

@@ -1,8 +1,8 @@
 //! Families of canonical messages, each of any size within the limits.
 
 use crate::jobs;
-use crate::random::Random;
 use nachricht::Builder;
+use reference::generate::Random;
 
 /// So many lines of a job board.
 pub fn lines(count: usize) -> Vec<u8> {
@@ -14,8 +14,8 @@ pub fn integers(count: usize, seed: u64) -> Vec<u8> {
     let mut random = Random::new(seed);
     let mut integers = Builder::new();
     for _ in 0..count {
-        let magnitude = random.number() >> random.choice(&[1, 8, 16, 24, 32, 40, 48, 56, 60]);
-        let sign = random.choice(&[1, -1]);
+        let magnitude = random.number() >> random.pick(&[1, 8, 16, 24, 32, 40, 48, 56, 60]);
+        let sign = random.pick(&[1, -1]);
         integers.integer(sign * i128::from(magnitude));
     }
     finished(&integers)
@@ -26,8 +26,8 @@ pub fn names(count: usize, seed: u64) -> Vec<u8> {
     let mut random = Random::new(seed);
     let mut names = Builder::new();
     for number in 0..count {
-        let stem = random.choice(&["n", "name", "attribute", "a rather long attribute "]);
-        let value = random.below(100);
+        let stem = random.pick(&["n", "name", "attribute", "a rather long attribute "]);
+        let value = random.below(100) as u64;
         names.key(format!("{stem}{number}")).integer(value);
     }
     finished(&names)

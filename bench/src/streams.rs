@@ -1,10 +1,11 @@
 //! Streams of envelopes for the programs: a number of different envelopes, again and again.
 
+use crate::jobs;
 use crate::loose::loose;
 use crate::messages::{ascii, integers, names, umlauts};
-use crate::{jobs, random::Random};
 use nachricht::limits::{MAX_BYTES, MAX_ENTRIES, MAX_ROWS};
 use nachricht::{enveloped, to_canonical, Bundle};
+use reference::generate::Random;
 use std::io::{self, Write};
 
 /// The names of the streams.
@@ -53,11 +54,11 @@ pub fn write_stream(bundles: &[Vec<u8>], bytes: usize, out: &mut impl Write) -> 
 }
 
 /// So many different boards, each of so many lines.
-fn boards(count: usize, lines: impl Fn(&mut Random) -> u64) -> Vec<Vec<u8>> {
+fn boards(count: usize, lines: impl Fn(&mut Random) -> usize) -> Vec<Vec<u8>> {
     let mut random = Random::new(1);
     (0..count)
         .map(|_| {
-            let lines = lines(&mut random) as usize;
+            let lines = lines(&mut random);
             let board = jobs::board(lines, &mut random);
             board.finish().expect("within the limits")
         })

@@ -2,7 +2,8 @@
 
 use std::fmt::Debug;
 
-use crate::Answer;
+use crate::expected::{self, Expected};
+use nachricht_sys::Answer;
 use reference::MAX_BYTES;
 
 /// Bytes before the buffer and after it, which no call may change.
@@ -43,13 +44,11 @@ impl Outcome {
     /// The one outcome for what the reference answers: only the bytes that it counts change.
     pub fn expected<E>(capacity: usize, call: impl FnOnce(&mut [u8]) -> Result<usize, E>) -> Outcome
     where
-        Answer: From<Result<usize, E>>,
+        Result<usize, E>: Expected,
     {
-        let mut out = vec![0; capacity];
-        let answer = Answer::from(call(&mut out));
-        let written = answer.count as usize;
+        let (answer, written) = expected::written(capacity, call);
         Outcome::of(capacity, |buffer| {
-            buffer[..written].copy_from_slice(&out[..written]);
+            buffer[..written.len()].copy_from_slice(&written);
             answer
         })
     }

@@ -2,7 +2,8 @@
 
 use std::fmt::Debug;
 
-use crate::{read, Row};
+use crate::row;
+use nachricht_sys::{read, Row};
 use reference::generate::model::{different_names, meanings, Meaning};
 use reference::{Mode, MAX_ROWS};
 
@@ -35,12 +36,12 @@ pub fn items_of(bundle: &[u8]) -> Vec<Meaning> {
 
 /// Panics with the input unless strict reading of what was written gives these items.
 pub fn assert_reads_back(written: &[u8], items: &[Meaning], input: &impl Debug) {
-    let mut rows = vec![Row::from(reference::Row::default()); MAX_ROWS];
-    let answer = read(written, Mode::Strict, &mut rows);
+    let mut rows = vec![Row::default(); MAX_ROWS];
+    let answer = read(written, true, &mut rows);
     assert_eq!(answer.error, 0, "not canonical, {input:02X?}");
     assert_eq!(answer.count, items.len() as u64, "{input:02X?}");
     assert_eq!(answer.entries, different_names(items) as u64);
     let rows = rows[..items.len()].iter().copied();
-    let rows = rows.map(reference::Row::from).collect::<Vec<_>>();
+    let rows = rows.map(row::to_reference).collect::<Vec<_>>();
     assert!(meanings(&rows, written) == items, "read back, {input:02X?}");
 }

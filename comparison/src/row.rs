@@ -1,30 +1,19 @@
-//! A row of a table, which reading fills and writing takes.
+//! Rows of the reference as rows of the C interface, and back.
 
-/// A row as the C interface has it.
-#[repr(C)]
-#[derive(Clone, Copy, PartialEq, Eq, Debug)]
-pub struct Row {
-    pub kind: u8,
-    pub number: u64,
-    pub start: usize,
-}
+use nachricht_sys::Row;
 
-impl From<reference::Row> for Row {
-    fn from(row: reference::Row) -> Row {
-        Row {
-            kind: row.kind,
-            number: row.number,
-            start: row.start,
-        }
+pub fn to_c(row: reference::Row) -> Row {
+    Row {
+        kind: row.kind,
+        number: row.number,
+        start: row.start,
     }
 }
 
-impl From<Row> for reference::Row {
-    fn from(row: Row) -> reference::Row {
-        reference::Row {
-            kind: row.kind,
-            number: row.number,
-            start: row.start,
-        }
+pub fn to_reference(row: Row) -> reference::Row {
+    reference::Row {
+        kind: row.kind,
+        number: row.number,
+        start: row.start,
     }
 }

@@ -2,7 +2,7 @@
 
 use std::collections::BTreeMap;
 
-use crate::Answer;
+use nachricht_sys::Answer;
 use reference::Mode;
 
 /// What reading in each mode, writing and canonicalizing can answer, with 0 for success.

@@ -4,7 +4,8 @@
 use comparison::buffer::{capacities, Outcome};
 use comparison::cases::canonicalizing;
 use comparison::items::{assert_reads_back, items_of};
-use comparison::{canonicalize, inputs, join, Answer, Tally};
+use comparison::{inputs, Tally};
+use nachricht_sys::{canonicalize, join, Answer};
 use reference::generate::{capacity, Random};
 use reference::MAX_BYTES;
 

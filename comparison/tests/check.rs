@@ -1,6 +1,8 @@
 //! `nachricht_check` answers what the reference answers, in both modes.
 
-use comparison::{check, inputs, Answer, Tally, MODES};
+use comparison::expected::Expected;
+use comparison::{inputs, Tally, MODES};
+use nachricht_sys::{check, Answer};
 use reference::generate::Random;
 use reference::Mode;
 
@@ -8,8 +10,8 @@ const SEEDS: u64 = 240_000;
 
 /// Compares the answers for one input.
 fn compare(bundle: &[u8], mode: Mode) -> Answer {
-    let answer = check(bundle, mode);
-    let expected = Answer::from(reference::check(bundle, mode));
+    let answer = check(bundle, mode == Mode::Strict);
+    let expected = reference::check(bundle, mode).answer();
     assert_eq!(answer, expected, "{mode:?}: {bundle:02X?}");
     answer
 }

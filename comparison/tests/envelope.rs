@@ -3,8 +3,9 @@
 
 use comparison::buffer::{Outcome, PLENTY};
 use comparison::cases::{closing, opening};
-use comparison::envelope::{close, open, BUNDLE_START};
-use comparison::{Answer, Tally};
+use comparison::expected::Expected;
+use comparison::{Tally, BUNDLE_START};
+use nachricht_sys::{close, open, Answer};
 use reference::generate::{streams, Random};
 use reference::MAX_BYTES;
 
@@ -21,12 +22,8 @@ fn compare_open(bytes: &[u8]) -> Answer {
     let expected = reference::open(bytes);
     let start = &bytes[..bytes.len().min(40)];
     let input = || format!("{} bytes, first {start:02X?}", bytes.len());
-    assert_eq!(
-        answer,
-        Answer::from(expected.map(<[u8]>::len)),
-        "{}",
-        input()
-    );
+    let length = expected.map(<[u8]>::len);
+    assert_eq!(answer, length.answer(), "{}", input());
     if let Ok(bundle) = expected {
         let opened = &bytes[BUNDLE_START..][..answer.count as usize];
         assert!(opened == bundle, "other bundle, {}", input());

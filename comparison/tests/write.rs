@@ -4,7 +4,8 @@
 use comparison::buffer::{capacities, Outcome, PLENTY};
 use comparison::cases::writing;
 use comparison::items::assert_reads_back;
-use comparison::{inputs, write, Answer, Row, Tally};
+use comparison::{inputs, row, Tally};
+use nachricht_sys::{write, Answer};
 use reference::generate::model::meanings;
 use reference::generate::tables::Table;
 use reference::generate::Random;
@@ -23,7 +24,7 @@ fn compare(table: &Table) -> Answer {
         capacity,
     } = table;
     let expected = Outcome::expected(*capacity, |out| reference::write(rows, text, out));
-    let rows = rows.iter().copied().map(Row::from).collect::<Vec<_>>();
+    let rows = rows.iter().copied().map(row::to_c).collect::<Vec<_>>();
     let outcome = Outcome::of(*capacity, |out| write(&rows, text, out));
     outcome.assert_is(&expected, table);
     if outcome.answer.error == 0 {

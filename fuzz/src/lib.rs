@@ -7,7 +7,9 @@ mod random;
 
 pub use input::generated;
 
-use comparison::{Answer, Row};
+use comparison::expected::{self, Expected};
+use comparison::row;
+use nachricht_sys::{Answer, Row};
 use reference::Mode;
 
 /// The elements at a pointer.
@@ -23,25 +25,23 @@ fn mode(strict: bool) -> Mode {
     }
 }
 
-/// Has the reference write to a buffer of its own, of which only what it counts goes on.
+/// Hands on what the reference has written to a buffer of its own.
 unsafe fn written<E>(
     out: *mut u8,
     capacity: usize,
     call: impl FnOnce(&mut [u8]) -> Result<usize, E>,
 ) -> Answer
 where
-    Answer: From<Result<usize, E>>,
+    Result<usize, E>: Expected,
 {
-    let mut own = vec![0; capacity];
-    let answer = Answer::from(call(&mut own));
-    let own = &own[..answer.count as usize];
-    out.copy_from_nonoverlapping(own.as_ptr(), own.len());
+    let (answer, bytes) = expected::written(capacity, call);
+    out.copy_from_nonoverlapping(bytes.as_ptr(), bytes.len());
     answer
 }
 
 #[no_mangle]
 unsafe extern "C" fn expected_check(bytes: *const u8, length: usize, strict: bool) -> Answer {
-    Answer::from(reference::check(part(bytes, length), mode(strict)))
+    reference::check(part(bytes, length), mode(strict)).answer()
 }
 
 #[no_mangle]
@@ -52,11 +52,8 @@ unsafe extern "C" fn expected_read(
     rows: *mut Row,
     capacity: usize,
 ) -> Answer {
-    let mut own = vec![reference::Row::default(); capacity];
-    let answer = Answer::from(reference::read(part(bytes, length), mode(strict), &mut own));
-    for (place, row) in own[..answer.count as usize].iter().enumerate() {
-        rows.add(place).write(Row::from(*row));
-    }
+    let (answer, filled) = expected::read(part(bytes, length), mode(strict), capacity);
+    rows.copy_from_nonoverlapping(filled.as_ptr(), filled.len());
     answer
 }
 
@@ -70,7 +67,7 @@ unsafe extern "C" fn expected_write(
     capacity: usize,
 ) -> Answer {
     let rows = part(rows, count).iter().copied();
-    let rows = rows.map(reference::Row::from).collect::<Vec<_>>();
+    let rows = rows.map(row::to_reference).collect::<Vec<_>>();
     let text = part(text, length);
     written(out, capacity, |out| reference::write(&rows, text, out))
 }
@@ -102,7 +99,7 @@ unsafe extern "C" fn expected_join(
 #[no_mangle]
 unsafe extern "C" fn expected_open(envelope: *const u8, length: usize) -> Answer {
     let opened = reference::open(part(envelope, length));
-    Answer::from(opened.map(<[u8]>::len))
+    opened.map(<[u8]>::len).answer()
 }
 
 #[no_mangle]

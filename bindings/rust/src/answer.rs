@@ -1,58 +1,59 @@
 //! What the C functions answer, as results. What the place of an error counts depends on the call.
 
-use crate::ffi::Answer;
 use crate::{Counts, Error, Place, Side};
+use nachricht_sys::Answer;
 
-impl Answer {
-    /// Of reading and canonicalizing: places are offsets.
-    pub fn read(self) -> Result<Answer, Error> {
-        self.or_at(match self.error {
-            1 => Place::Whole,
-            _ => Place::Offset(self.place as usize),
-        })
+/// Of reading and canonicalizing: places are offsets.
+pub fn read(answer: Answer) -> Result<Answer, Error> {
+    let place = match answer.error {
+        1 => Place::Whole,
+        _ => Place::Offset(answer.place as usize),
+    };
+    or_at(answer, place)
+}
+
+/// Of writing: places are rows.
+pub fn written(answer: Answer) -> Result<Answer, Error> {
+    let place = match answer.error {
+        1 | 7 => Place::Whole,
+        _ => Place::Row(answer.place as usize),
+    };
+    or_at(answer, place)
+}
+
+/// Of joining: places are offsets in one of the bundles.
+pub fn joined(answer: Answer) -> Result<Answer, Error> {
+    let offset = answer.place as usize;
+    let place = match answer.side {
+        1 => Place::Joining(Side::First, offset),
+        2 => Place::Joining(Side::Second, offset),
+        _ => Place::Whole,
+    };
+    or_at(answer, place)
+}
+
+/// Of envelopes: nothing in them has a place.
+pub fn enveloped(answer: Answer) -> Result<Answer, Error> {
+    or_at(answer, Place::Whole)
+}
+
+fn or_at(answer: Answer, place: Place) -> Result<Answer, Error> {
+    match answer.error {
+        0 => Ok(answer),
+        number => Err(Error::new(number, place)),
     }
+}
 
-    /// Of writing: places are rows.
-    pub fn written(self) -> Result<Answer, Error> {
-        self.or_at(match self.error {
-            1 | 7 => Place::Whole,
-            _ => Place::Row(self.place as usize),
-        })
-    }
+/// The bytes written, or in opening the bundle's length. Never more than the buffer has, so it fits.
+pub fn length(answer: Answer) -> usize {
+    answer.count as usize
+}
 
-    /// Of joining: places are offsets in one of the bundles.
-    pub fn joined(self) -> Result<Answer, Error> {
-        let offset = self.place as usize;
-        self.or_at(match self.side {
-            1 => Place::Joining(Side::First, offset),
-            2 => Place::Joining(Side::Second, offset),
-            _ => Place::Whole,
-        })
-    }
-
-    /// Of envelopes: nothing in them has a place.
-    pub fn enveloped(self) -> Result<Answer, Error> {
-        self.or_at(Place::Whole)
-    }
-
-    fn or_at(self, place: Place) -> Result<Answer, Error> {
-        match self.error {
-            0 => Ok(self),
-            number => Err(Error::new(number, place)),
-        }
-    }
-
-    /// The bytes written, or in opening the bundle's length. Never more than the buffer has, so it fits.
-    pub fn length(self) -> usize {
-        self.count as usize
-    }
-
-    /// The counts of a bundle.
-    pub fn counts(self) -> Counts {
-        Counts {
-            rows: self.count as usize,
-            entries: self.entries as usize,
-            fields: self.fields as usize,
-        }
+/// The counts of a bundle.
+pub fn counts(answer: Answer) -> Counts {
+    Counts {
+        rows: answer.count as usize,
+        entries: answer.entries as usize,
+        fields: answer.fields as usize,
     }
 }

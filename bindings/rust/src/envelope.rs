@@ -2,7 +2,7 @@
 
 use crate::limits::{ENVELOPE_HEADER, MAX_ENVELOPE};
 use crate::writing::collect;
-use crate::{ffi, Error};
+use crate::{answer, Error};
 
 /// The bundle in the envelope that the bytes begin with, which is not read.
 ///
@@ -20,7 +20,7 @@ use crate::{ffi, Error};
 /// [`InvalidEnvelope`](Error::InvalidEnvelope) where bytes are missing or the length is out of range; then
 /// [`UnsupportedVersion`](Error::UnsupportedVersion).
 pub fn open(envelope: &[u8]) -> Result<&[u8], Error> {
-    let length = ffi::open(envelope).enveloped()?.length();
+    let length = answer::enveloped(nachricht_sys::open(envelope)).map(answer::length)?;
     Ok(&envelope[ENVELOPE_HEADER..][..length])
 }
 
@@ -30,7 +30,7 @@ pub fn open(envelope: &[u8]) -> Result<&[u8], Error> {
 ///
 /// [`TooLong`](Error::TooLong), then [`OutputTooLong`](Error::OutputTooLong).
 pub fn close(bundle: &[u8], out: &mut [u8]) -> Result<usize, Error> {
-    Ok(ffi::close(bundle, out).enveloped()?.length())
+    answer::enveloped(nachricht_sys::close(bundle, out)).map(answer::length)
 }
 
 /// [`close`] into a vector.

@@ -2,7 +2,7 @@
 
 use crate::limits::MAX_BYTES;
 use crate::writing::collect;
-use crate::{ffi, Error};
+use crate::{answer, Error};
 
 /// Writes the canonical encoding of the first bundle's fields followed by the second's, and answers its length.
 ///
@@ -13,7 +13,7 @@ use crate::{ffi, Error};
 /// [`TooManyEntries`](Error::TooManyEntries) for more different names than a table has entries, and
 /// [`OutputTooLong`](Error::OutputTooLong).
 pub fn join(first: &[u8], second: &[u8], out: &mut [u8]) -> Result<usize, Error> {
-    Ok(ffi::join(first, second, out).joined()?.length())
+    answer::joined(nachricht_sys::join(first, second, out)).map(answer::length)
 }
 
 /// [`join`] into a vector.

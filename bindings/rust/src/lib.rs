@@ -37,7 +37,6 @@
 //! says what is wrong and where, and has changed nothing in the buffers that were lent. Functions that are lent a
 //! buffer do not allocate; those that answer a `Vec` or a [`Bundle`] do.
 #![deny(missing_docs)]
-#![deny(unsafe_op_in_unsafe_fn)]
 #![deny(unsafe_code)]
 
 mod answer;
@@ -46,8 +45,6 @@ mod bundle;
 mod display;
 mod envelope;
 mod error;
-#[allow(unsafe_code)]
-mod ffi;
 mod item;
 mod joining;
 pub mod limits;

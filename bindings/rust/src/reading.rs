@@ -1,6 +1,6 @@
 //! Checking a bundle, and reading it into a table of rows.
 
-use crate::{ffi, Error, Row};
+use crate::{answer, Error, Row};
 
 /// Which bundles are good.
 #[derive(Clone, Copy, PartialEq, Eq, Hash, Debug, Default)]
@@ -37,7 +37,7 @@ pub struct Counts {
 ///
 /// [`TooLong`](Error::TooLong); then what is wrong with the first bad item, at its offset.
 pub fn check(bytes: &[u8], mode: Mode) -> Result<Counts, Error> {
-    Ok(ffi::check(bytes, mode).read()?.counts())
+    answer::read(nachricht_sys::check(bytes, mode == Mode::Strict)).map(answer::counts)
 }
 
 /// Reads a bundle into a table of rows, without allocating.
@@ -60,5 +60,5 @@ pub fn check(bytes: &[u8], mode: Mode) -> Result<Counts, Error> {
 ///
 /// As [`check`], and [`TooManyRows`](Error::TooManyRows) also at the first item for which the table has no row.
 pub fn read_into(bytes: &[u8], mode: Mode, rows: &mut [Row]) -> Result<Counts, Error> {
-    Ok(ffi::read(bytes, mode, rows).read()?.counts())
+    answer::read(nachricht_sys::read(bytes, mode == Mode::Strict, rows)).map(answer::counts)
 }

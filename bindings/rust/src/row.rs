@@ -2,6 +2,7 @@
 
 use crate::item::Item;
 use crate::text::Text;
+use nachricht_sys::RowLayout;
 
 /// An item as a kind, a number and the place of its content.
 ///
@@ -17,6 +18,10 @@ pub struct Row {
     /// The offset of the content in the bundle or text, also of empty content; 0 for kinds without content.
     pub start: usize,
 }
+
+// SAFETY: `#[repr(C)]`, with the fields of `nachricht_sys::Row` in the same order.
+#[allow(unsafe_code)]
+unsafe impl RowLayout for Row {}
 
 /// What a row is, and what its number says.
 #[derive(Clone, Copy, PartialEq, Eq, Hash, Debug)]

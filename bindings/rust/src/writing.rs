@@ -1,7 +1,7 @@
 //! The canonical encoding of rows, and of a bundle.
 
 use crate::limits::MAX_BYTES;
-use crate::{ffi, Error, Row};
+use crate::{answer, Error, Row};
 
 /// Writes the canonical encoding of the rows into a buffer, and answers its length.
 ///
@@ -24,7 +24,7 @@ use crate::{ffi, Error, Row};
 /// bad row, at its number; then [`Truncated`](Error::Truncated) where rows are missing, at the number of rows; then
 /// [`OutputTooLong`](Error::OutputTooLong).
 pub fn write(rows: &[Row], text: &[u8], out: &mut [u8]) -> Result<usize, Error> {
-    Ok(ffi::write(rows, text, out).written()?.length())
+    answer::written(nachricht_sys::write(rows, text, out)).map(answer::length)
 }
 
 /// [`write()`] into a vector.
@@ -45,7 +45,7 @@ pub fn written(rows: &[Row], text: &[u8]) -> Result<Vec<u8>, Error> {
 /// As [`check`](crate::check) with [`Mode::Lenient`](crate::Mode::Lenient); then
 /// [`OutputTooLong`](Error::OutputTooLong).
 pub fn canonicalize(bytes: &[u8], out: &mut [u8]) -> Result<usize, Error> {
-    Ok(ffi::canonicalize(bytes, out).read()?.length())
+    answer::read(nachricht_sys::canonicalize(bytes, out)).map(answer::length)
 }
 
 /// [`canonicalize`] into a vector.

@@ -2,7 +2,8 @@
 
 use super::result::{look_at_refused, look_at_written};
 use crate::items::Content;
-use crate::{Answer, Tally};
+use crate::Tally;
+use nachricht_sys::Answer;
 use reference::generate::model::{canonical, different_names, Meaning};
 use reference::{MAX_BYTES, MAX_ENTRIES, MAX_ROWS};
 

@@ -1,7 +1,7 @@
 //! The cases of closing that a comparison has to meet, told from a call and the answer for it.
 
-use crate::envelope::BUNDLE_START;
-use crate::{Answer, Tally};
+use crate::{Tally, BUNDLE_START};
+use nachricht_sys::Answer;
 use reference::MAX_BYTES;
 
 /// Looks out for all the cases in the answer for a bundle and a buffer of these lengths.

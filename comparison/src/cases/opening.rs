@@ -1,6 +1,7 @@
 //! The cases of opening that a comparison has to meet, told from the bytes and the answer for them.
 
-use crate::{Answer, Tally};
+use crate::Tally;
+use nachricht_sys::Answer;
 use reference::MAX_BYTES;
 
 /// Looks out for all the cases in the answer for bytes that begin with an envelope, good or not.

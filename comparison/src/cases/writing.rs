@@ -1,7 +1,8 @@
 //! The cases of writing that a comparison has to meet, told from a table and the answer for it.
 
 use super::result::{look_at_refused, look_at_written};
-use crate::{Answer, Tally};
+use crate::Tally;
+use nachricht_sys::Answer;
 use reference::generate::model::{canonical, different_names, meanings};
 use reference::generate::tables::Table;
 use reference::{Row, MAX_BYTES, MAX_ENTRIES, MAX_ROWS};

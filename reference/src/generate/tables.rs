@@ -214,29 +214,29 @@ fn many_rows(random: &mut Random) -> Table {
     let items = vec![Meaning::plain(random.pick(&[0, 1, 6]), 0); near(random, MAX_ROWS)];
     let mut table = of_items(random, &items);
     if random.one_in(4) {
-        let length = near(random, MAX_BYTES);
-        table.text.resize(length, 0xFF);
+        lengthen(random, &mut table);
     }
-    if random.one_in(4) {
-        spoil(random, &mut table);
-    }
+    perhaps_spoil(random, &mut table);
     table
 }
 
 /// A text as long as allowed and longer, most of which no row uses.
 fn long_text(random: &mut Random) -> Table {
     let mut table = good(random);
-    let length = near(random, MAX_BYTES);
-    table.text.resize(length, 0xFF);
-    if random.one_in(4) {
-        spoil(random, &mut table);
-    }
+    lengthen(random, &mut table);
+    perhaps_spoil(random, &mut table);
     table
 }
 
-/// Puts a bad row in the place of another one.
-fn spoil(random: &mut Random, table: &mut Table) {
-    if !table.rows.is_empty() {
+/// Makes the text about as long as allowed.
+fn lengthen(random: &mut Random, table: &mut Table) {
+    let length = near(random, MAX_BYTES);
+    table.text.resize(length, 0xFF);
+}
+
+/// Puts a bad row in the place of another one, in one table of four.
+fn perhaps_spoil(random: &mut Random, table: &mut Table) {
+    if random.one_in(4) && !table.rows.is_empty() {
         let place = random.below(table.rows.len());
         table.rows[place] = bad_row(random, table.text.len());
     }
