@@ -31,6 +31,9 @@ fields-at t = and 3 fields-kinds.ps (is 3 fields-kinds.ps μ-fields t) fields.Pr
 abbrev fields-below : ℕ → In 3 fields-kinds.ps
 fields-below t = and 3 fields-kinds.ps (falls 3 fields-kinds.ps _<_ μ-fields t) fields.Pre
 
+abbrev claims : ℕ → fields-lts.Claims
+claims t = (one-reads.Asked, one-reads.Learnt, fields-below t, fields.Post)
+
 abbrev fields-Inv-loop : fields-lts.InvT-loop
 fields-Inv-loop s strict depth from known free entries₀ links₀ at₀ names₀ rows₀ keyed₀ left₀ entries links at names rows keyed left =
     Along strict s entries links from left₀ at names keyed left
@@ -40,357 +43,235 @@ fields-Inv-loop s strict depth from known free entries₀ links₀ at₀ names�
 abbrev fields-μ-loop : fields-lts.MeasureT-loop
 fields-μ-loop s strict depth from known free entries₀ links₀ at₀ names₀ rows₀ keyed₀ left₀ entries links at names rows keyed left = length s - at
 
-fields-loop-holds : (t : ℕ) → fields-lts.Need-loop-holds (
-  one-reads.Asked,
-  one-reads.Learnt,
-  fields-below t,
-  fields.Post,
-) (fields-at t) fields.Post fields-Inv-loop fields-μ-loop
+fields-loop-holds : (t : ℕ) → fields-lts.Need-loop-holds (claims t) (fields-at t) fields.Post fields-Inv-loop fields-μ-loop
 fields-loop-holds t c = (record { fair = c .before .pre .1 .2; within = c .before .pre .1 .0; back = omega arith; most = omega arith; rest = λ _. refl }, λ Q o a so l h f e. start-field Q _ a h f e)
 
-fields-returns : (t : ℕ) → fields-lts.Need-returns (
-  one-reads.Asked,
-  one-reads.Learnt,
-  fields-below t,
-  fields.Post,
-) (fields-at t) fields.Post fields-Inv-loop fields-μ-loop
+fields-returns : (t : ℕ) → fields-lts.Need-returns (claims t) (fields-at t) fields.Post fields-Inv-loop fields-μ-loop
 fields-returns t c = ((c .before .before .loop .inv .0 .fair, c .if1 .taken, c .before .loop-test .taken, c .before .before .loop .inv .0 .most), λ Q o a so l h f e. c .before .before .loop .inv .1 Q o a so l h f e)
 
-fields-one-requires : (t : ℕ) → fields-lts.Need-one-requires (
-  one-reads.Asked,
-  one-reads.Learnt,
-  fields-below t,
-  fields.Post,
-) (fields-at t) fields.Post fields-Inv-loop fields-μ-loop
-fields-one-requires t c κs = (c .before .before .before .before .loop .inv .0 .within, c .before .before .before .before .before .before .pre .1 .1, c .before .before .before .before .loop .inv .0 .fair)
+fields-one-requires : (t : ℕ) → fields-lts.Need-one-requires (claims t) (fields-at t) fields.Post fields-Inv-loop fields-μ-loop
+fields-one-requires t c κs =
+    let s = c .before .before .before .before .before .before in
+    (c .before .before .before .before .loop .inv .0 .within, s .pre .1 .1, c .before .before .before .before .loop .inv .0 .fair)
 
-fields-enum-known-k : (t : ℕ) → fields-lts.Need-enum-known-k (
-  one-reads.Asked,
-  one-reads.Learnt,
-  fields-below t,
-  fields.Post,
-) (fields-at t) fields.Post fields-Inv-loop fields-μ-loop
+fields-enum-known-k : (t : ℕ) → fields-lts.Need-enum-known-k (claims t) (fields-at t) fields.Post fields-Inv-loop fields-μ-loop
 fields-enum-known-k t c = search needs
 
-fields-returns-2 : (t : ℕ) → fields-lts.Need-returns-2 (
-  one-reads.Asked,
-  one-reads.Learnt,
-  fields-below t,
-  fields.Post,
-) (fields-at t) fields.Post fields-Inv-loop fields-μ-loop
-fields-returns-2 t c = (tt, λ Q o a so l h f e. field-bad Q _ _ (c .before .before .before .before .before .before .before .before .loop .left) l (c .before .before .before .before .before .before .before .loop-test .taken) (c .before .before .before .before .before .before .before .before .loop .inv .0 .most) (c .before .before .before .before .before .before .before .before .loop .inv .1 Q o a so l h f e) (c .before .before .before .before .before .before .if1 .left) _ _ (λ b. c .before .before .before .one .ensures .1 o b so) _ (c .before .k .given .1))
+fields-returns-2 : (t : ℕ) → fields-lts.Need-returns-2 (claims t) (fields-at t) fields.Post fields-Inv-loop fields-μ-loop
+fields-returns-2 t c =
+    let loop′ = c .before .before .before .before .before .before .before .before .loop in
+    let loop-test′ = c .before .before .before .before .before .before .before .loop-test in
+    let if1′ = c .before .before .before .before .before .before .if1 in
+    (tt, λ Q o a so l h f e. field-bad Q _ _ (loop′ .left) l (loop-test′ .taken) (loop′ .inv .0 .most) (loop′ .inv .1 Q o a so l h f e) (if1′ .left) _ _ (λ b. c .before .before .before .one .ensures .1 o b so) _ (c .before .k .given .1))
 
-fields-enum-known-u : (t : ℕ) → fields-lts.Need-enum-known-u (
-  one-reads.Asked,
-  one-reads.Learnt,
-  fields-below t,
-  fields.Post,
-) (fields-at t) fields.Post fields-Inv-loop fields-μ-loop
+fields-enum-known-u : (t : ℕ) → fields-lts.Need-enum-known-u (claims t) (fields-at t) fields.Post fields-Inv-loop fields-μ-loop
 fields-enum-known-u t c = search needs
 
-fields-returns-3 : (t : ℕ) → fields-lts.Need-returns-3 (
-  one-reads.Asked,
-  one-reads.Learnt,
-  fields-below t,
-  fields.Post,
-) (fields-at t) fields.Post fields-Inv-loop fields-μ-loop
-fields-returns-3 t c = (tt, λ Q o a so l h f e. field-full Q _ _ (c .before .before .before .before .before .before .before .before .before .loop .left) l (c .before .before .before .before .before .before .before .before .loop-test .taken) (c .before .before .before .before .before .before .before .before .before .loop .inv .0 .most) (c .before .before .before .before .before .before .before .before .before .loop .inv .1 Q o a so l h f e) (c .before .before .before .before .before .before .before .if1 .left) _ _ (λ b. c .before .before .before .before .one .ensures .1 o b so) _ (c .before .before .u .given .1) refl (c .if2 .taken))
+fields-returns-3 : (t : ℕ) → fields-lts.Need-returns-3 (claims t) (fields-at t) fields.Post fields-Inv-loop fields-μ-loop
+fields-returns-3 t c =
+    let loop′ = c .before .before .before .before .before .before .before .before .before .loop in
+    let loop-test′ = c .before .before .before .before .before .before .before .before .loop-test in
+    let if1′ = c .before .before .before .before .before .before .before .if1 in
+    (tt, λ Q o a so l h f e. field-full Q _ _ (loop′ .left) l (loop-test′ .taken) (loop′ .inv .0 .most) (loop′ .inv .1 Q o a so l h f e) (if1′ .left) _ _ (λ b. c .before .before .before .before .one .ensures .1 o b so) _ (c .before .before .u .given .1) refl (c .if2 .taken))
 
-fields-sub-rows : (t : ℕ) → fields-lts.Need-sub-rows (
-  one-reads.Asked,
-  one-reads.Learnt,
-  fields-below t,
-  fields.Post,
-) (fields-at t) fields.Post fields-Inv-loop fields-μ-loop
+fields-sub-rows : (t : ℕ) → fields-lts.Need-sub-rows (claims t) (fields-at t) fields.Post fields-Inv-loop fields-μ-loop
 fields-sub-rows t c = omega (arith, c .if2 .left)
 
-fields-sub-left : (t : ℕ) → fields-lts.Need-sub-left (
-  one-reads.Asked,
-  one-reads.Learnt,
-  fields-below t,
-  fields.Post,
-) (fields-at t) fields.Post fields-Inv-loop fields-μ-loop
+fields-sub-left : (t : ℕ) → fields-lts.Need-sub-left (claims t) (fields-at t) fields.Post fields-Inv-loop fields-μ-loop
 fields-sub-left t c = search needs
 
-fields-loop-less : (t : ℕ) → fields-lts.Need-loop-less (
-  one-reads.Asked,
-  one-reads.Learnt,
-  fields-below t,
-  fields.Post,
-) (fields-at t) fields.Post fields-Inv-loop fields-μ-loop
-fields-loop-less t c = let g = rw (c .before .before .u .given .1) at (c .before .before .before .before .one .ensures .0) in omega (arith, g .on, g .within)
+fields-loop-less : (t : ℕ) → fields-lts.Need-loop-less (claims t) (fields-at t) fields.Post fields-Inv-loop fields-μ-loop
+fields-loop-less t c =
+    let g = rw (c .before .before .u .given .1) at (c .before .before .before .before .one .ensures .0) in
+    omega (arith, g .on, g .within)
 
-fields-loop-again : (t : ℕ) → fields-lts.Need-loop-again (
-  one-reads.Asked,
-  one-reads.Learnt,
-  fields-below t,
-  fields.Post,
-) (fields-at t) fields.Post fields-Inv-loop fields-μ-loop
-fields-loop-again t c = let g = rw (c .before .before .u .given .1) at (c .before .before .before .before .one .ensures .0) in (along-value (c .before .before .before .before .before .before .before .before .before .loop .inv .0) (c .before .before .before .before .before .before .before .before .loop-test .taken) g, λ Q o a so l h f e. field-value Q _ _ (c .before .before .before .before .before .before .before .before .before .loop .left) l (c .before .before .before .before .before .before .before .before .loop-test .taken) (c .before .before .before .before .before .before .before .before .before .loop .inv .0 .most) (c .before .before .before .before .before .before .before .before .before .loop .inv .1 Q o a so l h f e) (c .before .before .before .before .before .before .before .if1 .left) _ _ (λ b. c .before .before .before .before .one .ensures .1 o b so) (c .if2 .left) _ (c .before .before .u .given .1))
+fields-loop-again : (t : ℕ) → fields-lts.Need-loop-again (claims t) (fields-at t) fields.Post fields-Inv-loop fields-μ-loop
+fields-loop-again t c =
+    let loop′ = c .before .before .before .before .before .before .before .before .before .loop in
+    let loop-test′ = c .before .before .before .before .before .before .before .before .loop-test in
+    let if1′ = c .before .before .before .before .before .before .before .if1 in
+    let g = rw (c .before .before .u .given .1) at (c .before .before .before .before .one .ensures .0) in
+    (along-value (loop′ .inv .0) (loop-test′ .taken) g, λ Q o a so l h f e. field-value Q _ _ (loop′ .left) l (loop-test′ .taken) (loop′ .inv .0 .most) (loop′ .inv .1 Q o a so l h f e) (if1′ .left) _ _ (λ b. c .before .before .before .before .one .ensures .1 o b so) (c .if2 .left) _ (c .before .before .u .given .1))
 
-fields-enum-known-u-2 : (t : ℕ) → fields-lts.Need-enum-known-u-2 (
-  one-reads.Asked,
-  one-reads.Learnt,
-  fields-below t,
-  fields.Post,
-) (fields-at t) fields.Post fields-Inv-loop fields-μ-loop
+fields-enum-known-u-2 : (t : ℕ) → fields-lts.Need-enum-known-u-2 (claims t) (fields-at t) fields.Post fields-Inv-loop fields-μ-loop
 fields-enum-known-u-2 t c = search needs
 
-fields-returns-4 : (t : ℕ) → fields-lts.Need-returns-4 (
-  one-reads.Asked,
-  one-reads.Learnt,
-  fields-below t,
-  fields.Post,
-) (fields-at t) fields.Post fields-Inv-loop fields-μ-loop
-fields-returns-4 t c = (tt, λ Q o a so l h f e. field-full Q _ _ (c .before .before .before .before .before .before .before .before .before .loop .left) l (c .before .before .before .before .before .before .before .before .loop-test .taken) (c .before .before .before .before .before .before .before .before .before .loop .inv .0 .most) (c .before .before .before .before .before .before .before .before .before .loop .inv .1 Q o a so l h f e) (c .before .before .before .before .before .before .before .if1 .left) _ _ (λ b. c .before .before .before .before .one .ensures .1 o b so) _ (c .before .before .u2 .given .1) refl (c .if3 .taken))
+fields-returns-4 : (t : ℕ) → fields-lts.Need-returns-4 (claims t) (fields-at t) fields.Post fields-Inv-loop fields-μ-loop
+fields-returns-4 t c =
+    let loop′ = c .before .before .before .before .before .before .before .before .before .loop in
+    let loop-test′ = c .before .before .before .before .before .before .before .before .loop-test in
+    let if1′ = c .before .before .before .before .before .before .before .if1 in
+    (tt, λ Q o a so l h f e. field-full Q _ _ (loop′ .left) l (loop-test′ .taken) (loop′ .inv .0 .most) (loop′ .inv .1 Q o a so l h f e) (if1′ .left) _ _ (λ b. c .before .before .before .before .one .ensures .1 o b so) _ (c .before .before .u2 .given .1) refl (c .if3 .taken))
 
-fields-sub-rows-2 : (t : ℕ) → fields-lts.Need-sub-rows-2 (
-  one-reads.Asked,
-  one-reads.Learnt,
-  fields-below t,
-  fields.Post,
-) (fields-at t) fields.Post fields-Inv-loop fields-μ-loop
+fields-sub-rows-2 : (t : ℕ) → fields-lts.Need-sub-rows-2 (claims t) (fields-at t) fields.Post fields-Inv-loop fields-μ-loop
 fields-sub-rows-2 t c = omega (arith, c .if3 .left)
 
-fields-loop-less-2 : (t : ℕ) → fields-lts.Need-loop-less-2 (
-  one-reads.Asked,
-  one-reads.Learnt,
-  fields-below t,
-  fields.Post,
-) (fields-at t) fields.Post fields-Inv-loop fields-μ-loop
-fields-loop-less-2 t c = let g = rw (c .before .before .u2 .given .1) at (c .before .before .before .before .one .ensures .0) in omega (arith, g .on, g .within)
+fields-loop-less-2 : (t : ℕ) → fields-lts.Need-loop-less-2 (claims t) (fields-at t) fields.Post fields-Inv-loop fields-μ-loop
+fields-loop-less-2 t c =
+    let g = rw (c .before .before .u2 .given .1) at (c .before .before .before .before .one .ensures .0) in
+    omega (arith, g .on, g .within)
 
-fields-loop-again-2 : (t : ℕ) → fields-lts.Need-loop-again-2 (
-  one-reads.Asked,
-  one-reads.Learnt,
-  fields-below t,
-  fields.Post,
-) (fields-at t) fields.Post fields-Inv-loop fields-μ-loop
-fields-loop-again-2 t c = let g = rw (c .before .before .u2 .given .1) at (c .before .before .before .before .one .ensures .0) in (along-key (c .before .before .before .before .before .before .before .before .before .loop .inv .0) (c .before .before .before .before .before .before .before .before .loop-test .taken) g, λ Q o a so l h f e. field-key Q _ _ (c .before .before .before .before .before .before .before .before .before .loop .left) l (c .before .before .before .before .before .before .before .before .loop-test .taken) (c .before .before .before .before .before .before .before .before .before .loop .inv .0 .most) (c .before .before .before .before .before .before .before .before .before .loop .inv .1 Q o a so l h f e) (c .before .before .before .before .before .before .before .if1 .left) _ _ (λ b. c .before .before .before .before .one .ensures .1 o b so) (c .if3 .left) _ (c .before .before .u2 .given .1))
+fields-loop-again-2 : (t : ℕ) → fields-lts.Need-loop-again-2 (claims t) (fields-at t) fields.Post fields-Inv-loop fields-μ-loop
+fields-loop-again-2 t c =
+    let loop′ = c .before .before .before .before .before .before .before .before .before .loop in
+    let loop-test′ = c .before .before .before .before .before .before .before .before .loop-test in
+    let if1′ = c .before .before .before .before .before .before .before .if1 in
+    let g = rw (c .before .before .u2 .given .1) at (c .before .before .before .before .one .ensures .0) in
+    (along-key (loop′ .inv .0) (loop-test′ .taken) g, λ Q o a so l h f e. field-key Q _ _ (loop′ .left) l (loop-test′ .taken) (loop′ .inv .0 .most) (loop′ .inv .1 Q o a so l h f e) (if1′ .left) _ _ (λ b. c .before .before .before .before .one .ensures .1 o b so) (c .if3 .left) _ (c .before .before .u2 .given .1))
 
-fields-enum-known-u-3 : (t : ℕ) → fields-lts.Need-enum-known-u-3 (
-  one-reads.Asked,
-  one-reads.Learnt,
-  fields-below t,
-  fields.Post,
-) (fields-at t) fields.Post fields-Inv-loop fields-μ-loop
+fields-enum-known-u-3 : (t : ℕ) → fields-lts.Need-enum-known-u-3 (claims t) (fields-at t) fields.Post fields-Inv-loop fields-μ-loop
 fields-enum-known-u-3 t c = search needs
 
-fields-returns-5 : (t : ℕ) → fields-lts.Need-returns-5 (
-  one-reads.Asked,
-  one-reads.Learnt,
-  fields-below t,
-  fields.Post,
-) (fields-at t) fields.Post fields-Inv-loop fields-μ-loop
-fields-returns-5 t c = (tt, λ Q o a so l h f e. field-full Q _ _ (c .before .before .before .before .before .before .before .before .before .loop .left) l (c .before .before .before .before .before .before .before .before .loop-test .taken) (c .before .before .before .before .before .before .before .before .before .loop .inv .0 .most) (c .before .before .before .before .before .before .before .before .before .loop .inv .1 Q o a so l h f e) (c .before .before .before .before .before .before .before .if1 .left) _ _ (λ b. c .before .before .before .before .one .ensures .1 o b so) _ (c .before .before .u3 .given .1) refl (c .if4 .taken))
+fields-returns-5 : (t : ℕ) → fields-lts.Need-returns-5 (claims t) (fields-at t) fields.Post fields-Inv-loop fields-μ-loop
+fields-returns-5 t c =
+    let loop′ = c .before .before .before .before .before .before .before .before .before .loop in
+    let loop-test′ = c .before .before .before .before .before .before .before .before .loop-test in
+    let if1′ = c .before .before .before .before .before .before .before .if1 in
+    (tt, λ Q o a so l h f e. field-full Q _ _ (loop′ .left) l (loop-test′ .taken) (loop′ .inv .0 .most) (loop′ .inv .1 Q o a so l h f e) (if1′ .left) _ _ (λ b. c .before .before .before .before .one .ensures .1 o b so) _ (c .before .before .u3 .given .1) refl (c .if4 .taken))
 
-fields-add-names : (t : ℕ) → fields-lts.Need-add-names (
-  one-reads.Asked,
-  one-reads.Learnt,
-  fields-below t,
-  fields.Post,
-) (fields-at t) fields.Post fields-Inv-loop fields-μ-loop
-fields-add-names t c = let g = rw (c .before .before .u3 .given .1) at (c .before .before .before .before .one .ensures .0) in omega (arith, g .fair .few)
+fields-add-names : (t : ℕ) → fields-lts.Need-add-names (claims t) (fields-at t) fields.Post fields-Inv-loop fields-μ-loop
+fields-add-names t c =
+    let g = rw (c .before .before .u3 .given .1) at (c .before .before .before .before .one .ensures .0) in
+    omega (arith, g .fair .few)
 
-fields-sub-rows-3 : (t : ℕ) → fields-lts.Need-sub-rows-3 (
-  one-reads.Asked,
-  one-reads.Learnt,
-  fields-below t,
-  fields.Post,
-) (fields-at t) fields.Post fields-Inv-loop fields-μ-loop
+fields-sub-rows-3 : (t : ℕ) → fields-lts.Need-sub-rows-3 (claims t) (fields-at t) fields.Post fields-Inv-loop fields-μ-loop
 fields-sub-rows-3 t c = omega (arith, c .if4 .left)
 
-fields-sub-left-2 : (t : ℕ) → fields-lts.Need-sub-left-2 (
-  one-reads.Asked,
-  one-reads.Learnt,
-  fields-below t,
-  fields.Post,
-) (fields-at t) fields.Post fields-Inv-loop fields-μ-loop
+fields-sub-left-2 : (t : ℕ) → fields-lts.Need-sub-left-2 (claims t) (fields-at t) fields.Post fields-Inv-loop fields-μ-loop
 fields-sub-left-2 t c = search needs
 
-fields-loop-less-3 : (t : ℕ) → fields-lts.Need-loop-less-3 (
-  one-reads.Asked,
-  one-reads.Learnt,
-  fields-below t,
-  fields.Post,
-) (fields-at t) fields.Post fields-Inv-loop fields-μ-loop
-fields-loop-less-3 t c = let g = rw (c .before .before .u3 .given .1) at (c .before .before .before .before .one .ensures .0) in omega (arith, g .on, g .within)
+fields-loop-less-3 : (t : ℕ) → fields-lts.Need-loop-less-3 (claims t) (fields-at t) fields.Post fields-Inv-loop fields-μ-loop
+fields-loop-less-3 t c =
+    let g = rw (c .before .before .u3 .given .1) at (c .before .before .before .before .one .ensures .0) in
+    omega (arith, g .on, g .within)
 
-fields-loop-again-3 : (t : ℕ) → fields-lts.Need-loop-again-3 (
-  one-reads.Asked,
-  one-reads.Learnt,
-  fields-below t,
-  fields.Post,
-) (fields-at t) fields.Post fields-Inv-loop fields-μ-loop
-fields-loop-again-3 t c = let g = rw (c .before .before .u3 .given .1) at (c .before .before .before .before .one .ensures .0) in (along-value (c .before .before .before .before .before .before .before .before .before .loop .inv .0) (c .before .before .before .before .before .before .before .before .loop-test .taken) g, λ Q o a so l h f e. field-symbol Q _ _ (c .before .before .before .before .before .before .before .before .before .loop .left) l (c .before .before .before .before .before .before .before .before .loop-test .taken) (c .before .before .before .before .before .before .before .before .before .loop .inv .0 .most) (c .before .before .before .before .before .before .before .before .before .loop .inv .1 Q o a so l h f e) (c .before .before .before .before .before .before .before .if1 .left) _ _ (λ b. c .before .before .before .before .one .ensures .1 o b so) (c .if4 .left) _ (c .before .before .u3 .given .1))
+fields-loop-again-3 : (t : ℕ) → fields-lts.Need-loop-again-3 (claims t) (fields-at t) fields.Post fields-Inv-loop fields-μ-loop
+fields-loop-again-3 t c =
+    let loop′ = c .before .before .before .before .before .before .before .before .before .loop in
+    let loop-test′ = c .before .before .before .before .before .before .before .before .loop-test in
+    let if1′ = c .before .before .before .before .before .before .before .if1 in
+    let g = rw (c .before .before .u3 .given .1) at (c .before .before .before .before .one .ensures .0) in
+    (along-value (loop′ .inv .0) (loop-test′ .taken) g, λ Q o a so l h f e. field-symbol Q _ _ (loop′ .left) l (loop-test′ .taken) (loop′ .inv .0 .most) (loop′ .inv .1 Q o a so l h f e) (if1′ .left) _ _ (λ b. c .before .before .before .before .one .ensures .1 o b so) (c .if4 .left) _ (c .before .before .u3 .given .1))
 
-fields-enum-known-u-4 : (t : ℕ) → fields-lts.Need-enum-known-u-4 (
-  one-reads.Asked,
-  one-reads.Learnt,
-  fields-below t,
-  fields.Post,
-) (fields-at t) fields.Post fields-Inv-loop fields-μ-loop
+fields-enum-known-u-4 : (t : ℕ) → fields-lts.Need-enum-known-u-4 (claims t) (fields-at t) fields.Post fields-Inv-loop fields-μ-loop
 fields-enum-known-u-4 t c = search needs
 
-fields-returns-6 : (t : ℕ) → fields-lts.Need-returns-6 (
-  one-reads.Asked,
-  one-reads.Learnt,
-  fields-below t,
-  fields.Post,
-) (fields-at t) fields.Post fields-Inv-loop fields-μ-loop
-fields-returns-6 t c = (tt, λ Q o a so l h f e. field-full Q _ _ (c .before .before .before .before .before .before .before .before .before .loop .left) l (c .before .before .before .before .before .before .before .before .loop-test .taken) (c .before .before .before .before .before .before .before .before .before .loop .inv .0 .most) (c .before .before .before .before .before .before .before .before .before .loop .inv .1 Q o a so l h f e) (c .before .before .before .before .before .before .before .if1 .left) _ _ (λ b. c .before .before .before .before .one .ensures .1 o b so) _ (c .before .before .u4 .given .1) refl (c .if5 .taken))
+fields-returns-6 : (t : ℕ) → fields-lts.Need-returns-6 (claims t) (fields-at t) fields.Post fields-Inv-loop fields-μ-loop
+fields-returns-6 t c =
+    let loop′ = c .before .before .before .before .before .before .before .before .before .loop in
+    let loop-test′ = c .before .before .before .before .before .before .before .before .loop-test in
+    let if1′ = c .before .before .before .before .before .before .before .if1 in
+    (tt, λ Q o a so l h f e. field-full Q _ _ (loop′ .left) l (loop-test′ .taken) (loop′ .inv .0 .most) (loop′ .inv .1 Q o a so l h f e) (if1′ .left) _ _ (λ b. c .before .before .before .before .one .ensures .1 o b so) _ (c .before .before .u4 .given .1) refl (c .if5 .taken))
 
-fields-add-names-2 : (t : ℕ) → fields-lts.Need-add-names-2 (
-  one-reads.Asked,
-  one-reads.Learnt,
-  fields-below t,
-  fields.Post,
-) (fields-at t) fields.Post fields-Inv-loop fields-μ-loop
-fields-add-names-2 t c = let g = rw (c .before .before .u4 .given .1) at (c .before .before .before .before .one .ensures .0) in omega (arith, g .fair .few)
+fields-add-names-2 : (t : ℕ) → fields-lts.Need-add-names-2 (claims t) (fields-at t) fields.Post fields-Inv-loop fields-μ-loop
+fields-add-names-2 t c =
+    let g = rw (c .before .before .u4 .given .1) at (c .before .before .before .before .one .ensures .0) in
+    omega (arith, g .fair .few)
 
-fields-sub-rows-4 : (t : ℕ) → fields-lts.Need-sub-rows-4 (
-  one-reads.Asked,
-  one-reads.Learnt,
-  fields-below t,
-  fields.Post,
-) (fields-at t) fields.Post fields-Inv-loop fields-μ-loop
+fields-sub-rows-4 : (t : ℕ) → fields-lts.Need-sub-rows-4 (claims t) (fields-at t) fields.Post fields-Inv-loop fields-μ-loop
 fields-sub-rows-4 t c = omega (arith, c .if5 .left)
 
-fields-loop-less-4 : (t : ℕ) → fields-lts.Need-loop-less-4 (
-  one-reads.Asked,
-  one-reads.Learnt,
-  fields-below t,
-  fields.Post,
-) (fields-at t) fields.Post fields-Inv-loop fields-μ-loop
-fields-loop-less-4 t c = let g = rw (c .before .before .u4 .given .1) at (c .before .before .before .before .one .ensures .0) in omega (arith, g .on, g .within)
+fields-loop-less-4 : (t : ℕ) → fields-lts.Need-loop-less-4 (claims t) (fields-at t) fields.Post fields-Inv-loop fields-μ-loop
+fields-loop-less-4 t c =
+    let g = rw (c .before .before .u4 .given .1) at (c .before .before .before .before .one .ensures .0) in
+    omega (arith, g .on, g .within)
 
-fields-loop-again-4 : (t : ℕ) → fields-lts.Need-loop-again-4 (
-  one-reads.Asked,
-  one-reads.Learnt,
-  fields-below t,
-  fields.Post,
-) (fields-at t) fields.Post fields-Inv-loop fields-μ-loop
-fields-loop-again-4 t c = let g = rw (c .before .before .u4 .given .1) at (c .before .before .before .before .one .ensures .0) in (along-key (c .before .before .before .before .before .before .before .before .before .loop .inv .0) (c .before .before .before .before .before .before .before .before .loop-test .taken) g, λ Q o a so l h f e. field-new-key Q _ _ (c .before .before .before .before .before .before .before .before .before .loop .left) l (c .before .before .before .before .before .before .before .before .loop-test .taken) (c .before .before .before .before .before .before .before .before .before .loop .inv .0 .most) (c .before .before .before .before .before .before .before .before .before .loop .inv .1 Q o a so l h f e) (c .before .before .before .before .before .before .before .if1 .left) _ _ (λ b. c .before .before .before .before .one .ensures .1 o b so) (c .if5 .left) _ (c .before .before .u4 .given .1))
+fields-loop-again-4 : (t : ℕ) → fields-lts.Need-loop-again-4 (claims t) (fields-at t) fields.Post fields-Inv-loop fields-μ-loop
+fields-loop-again-4 t c =
+    let loop′ = c .before .before .before .before .before .before .before .before .before .loop in
+    let loop-test′ = c .before .before .before .before .before .before .before .before .loop-test in
+    let if1′ = c .before .before .before .before .before .before .before .if1 in
+    let g = rw (c .before .before .u4 .given .1) at (c .before .before .before .before .one .ensures .0) in
+    (along-key (loop′ .inv .0) (loop-test′ .taken) g, λ Q o a so l h f e. field-new-key Q _ _ (loop′ .left) l (loop-test′ .taken) (loop′ .inv .0 .most) (loop′ .inv .1 Q o a so l h f e) (if1′ .left) _ _ (λ b. c .before .before .before .before .one .ensures .1 o b so) (c .if5 .left) _ (c .before .before .u4 .given .1))
 
-fields-enum-known-n : (t : ℕ) → fields-lts.Need-enum-known-n (
-  one-reads.Asked,
-  one-reads.Learnt,
-  fields-below t,
-  fields.Post,
-) (fields-at t) fields.Post fields-Inv-loop fields-μ-loop
+fields-enum-known-n : (t : ℕ) → fields-lts.Need-enum-known-n (claims t) (fields-at t) fields.Post fields-Inv-loop fields-μ-loop
 fields-enum-known-n t c = search needs
 
-fields-returns-7 : (t : ℕ) → fields-lts.Need-returns-7 (
-  one-reads.Asked,
-  one-reads.Learnt,
-  fields-below t,
-  fields.Post,
-) (fields-at t) fields.Post fields-Inv-loop fields-μ-loop
-fields-returns-7 t c = (tt, λ Q o a so l h f e. field-full Q _ _ (c .before .before .before .before .before .before .before .before .before .loop .left) l (c .before .before .before .before .before .before .before .before .loop-test .taken) (c .before .before .before .before .before .before .before .before .before .loop .inv .0 .most) (c .before .before .before .before .before .before .before .before .before .loop .inv .1 Q o a so l h f e) (c .before .before .before .before .before .before .before .if1 .left) _ _ (λ b. c .before .before .before .before .one .ensures .1 o b so) _ (c .before .before .n .given .1) refl (c .if6 .taken))
+fields-returns-7 : (t : ℕ) → fields-lts.Need-returns-7 (claims t) (fields-at t) fields.Post fields-Inv-loop fields-μ-loop
+fields-returns-7 t c =
+    let loop′ = c .before .before .before .before .before .before .before .before .before .loop in
+    let loop-test′ = c .before .before .before .before .before .before .before .before .loop-test in
+    let if1′ = c .before .before .before .before .before .before .before .if1 in
+    (tt, λ Q o a so l h f e. field-full Q _ _ (loop′ .left) l (loop-test′ .taken) (loop′ .inv .0 .most) (loop′ .inv .1 Q o a so l h f e) (if1′ .left) _ _ (λ b. c .before .before .before .before .one .ensures .1 o b so) _ (c .before .before .n .given .1) refl (c .if6 .taken))
 
-fields-sub-fields : (t : ℕ) → fields-lts.Need-sub-fields (
-  one-reads.Asked,
-  one-reads.Learnt,
-  fields-below t,
-  fields.Post,
-) (fields-at t) fields.Post fields-Inv-loop fields-μ-loop
-fields-sub-fields t c = let g = rw (c .before .before .n .given .1) at (c .before .before .before .before .one .ensures .0) in omega (arith, g .0)
+fields-sub-fields : (t : ℕ) → fields-lts.Need-sub-fields (claims t) (fields-at t) fields.Post fields-Inv-loop fields-μ-loop
+fields-sub-fields t c =
+    let g = rw (c .before .before .n .given .1) at (c .before .before .before .before .one .ensures .0) in
+    omega (arith, g .0)
 
-fields-sub-fields-2 : (t : ℕ) → fields-lts.Need-sub-fields-2 (
-  one-reads.Asked,
-  one-reads.Learnt,
-  fields-below t,
-  fields.Post,
-) (fields-at t) fields.Post fields-Inv-loop fields-μ-loop
+fields-sub-fields-2 : (t : ℕ) → fields-lts.Need-sub-fields-2 (claims t) (fields-at t) fields.Post fields-Inv-loop fields-μ-loop
 fields-sub-fields-2 t c = omega (arith, c .if6 .left)
 
-fields-fields-requires : (t : ℕ) → fields-lts.Need-fields-requires (
-  one-reads.Asked,
-  one-reads.Learnt,
-  fields-below t,
-  fields.Post,
-) (fields-at t) fields.Post fields-Inv-loop fields-μ-loop
-fields-fields-requires t c κs = let g = rw (c .before .before .before .before .n .given .1) at (c .before .before .before .before .before .before .one .ensures .0) in (omega (arith, c .before .before .before .before .before .before .before .before .before .before .before .before .before .pre .0, g .2 .on, g .2 .within, c .before .before .before .before .before .before .before .before .before .before .before .loop .inv .0 .back, c .before .before .before .before .before .before .before .before .before .before .before .loop .inv .0 .most), (g .2 .within, c .before .before .before .before .before .before .before .before .before .before .before .before .before .pre .1 .1, g .2 .fair))
+fields-fields-requires : (t : ℕ) → fields-lts.Need-fields-requires (claims t) (fields-at t) fields.Post fields-Inv-loop fields-μ-loop
+fields-fields-requires t c κs =
+    let one′ = c .before .before .before .before .before .before .one in
+    let s = c .before .before .before .before .before .before .before .before .before .before .before .before .before in
+    let loop′ = c .before .before .before .before .before .before .before .before .before .before .before .loop in
+    let g = rw (c .before .before .before .before .n .given .1) at (one′ .ensures .0) in
+    (omega (arith, s .pre .0, g .2 .on, g .2 .within, loop′ .inv .0 .back, loop′ .inv .0 .most), (g .2 .within, s .pre .1 .1, g .2 .fair))
 
-fields-enum-known-k-2 : (t : ℕ) → fields-lts.Need-enum-known-k-2 (
-  one-reads.Asked,
-  one-reads.Learnt,
-  fields-below t,
-  fields.Post,
-) (fields-at t) fields.Post fields-Inv-loop fields-μ-loop
+fields-enum-known-k-2 : (t : ℕ) → fields-lts.Need-enum-known-k-2 (claims t) (fields-at t) fields.Post fields-Inv-loop fields-μ-loop
 fields-enum-known-k-2 t c = search needs
 
-fields-returns-8 : (t : ℕ) → fields-lts.Need-returns-8 (
-  one-reads.Asked,
-  one-reads.Learnt,
-  fields-below t,
-  fields.Post,
-) (fields-at t) fields.Post fields-Inv-loop fields-μ-loop
-fields-returns-8 t c = let g = rw (c .before .before .before .before .before .before .before .before .n .given .1) at (c .before .before .before .before .before .before .before .before .before .before .one .ensures .0) in (tt, λ Q o a so l h f e. field-held-bad Q _ _ (c .before .before .before .before .before .before .before .before .before .before .before .before .before .before .before .loop .left) l (c .before .before .before .before .before .before .before .before .before .before .before .before .before .before .loop-test .taken) (c .before .before .before .before .before .before .before .before .before .before .before .before .before .before .before .loop .inv .0 .most) (c .before .before .before .before .before .before .before .before .before .before .before .before .before .before .before .loop .inv .1 Q o a so l h f e) (c .before .before .before .before .before .before .before .before .before .before .before .before .before .if1 .left) _ _ (λ b. c .before .before .before .before .before .before .before .before .before .before .one .ensures .1 o b so) (c .before .before .before .before .before .before .if6 .left) _ _ (c .before .before .before .before .before .before .before .before .n .given .1) (g .0) (g .1) _ _ (λ Q b. c .before .before .before .fields .ensures .1 Q o b so) _ _ (c .before .k2 .given .1))
+fields-returns-8 : (t : ℕ) → fields-lts.Need-returns-8 (claims t) (fields-at t) fields.Post fields-Inv-loop fields-μ-loop
+fields-returns-8 t c =
+    let n′ = c .before .before .before .before .before .before .before .before .n in
+    let one′ = c .before .before .before .before .before .before .before .before .before .before .one in
+    let loop′ = c .before .before .before .before .before .before .before .before .before .before .before .before .before .before .before .loop in
+    let loop-test′ = c .before .before .before .before .before .before .before .before .before .before .before .before .before .before .loop-test in
+    let if1′ = c .before .before .before .before .before .before .before .before .before .before .before .before .before .if1 in
+    let if6′ = c .before .before .before .before .before .before .if6 in
+    let g = rw (n′ .given .1) at (one′ .ensures .0) in
+    (tt, λ Q o a so l h f e. field-held-bad Q _ _ (loop′ .left) l (loop-test′ .taken) (loop′ .inv .0 .most) (loop′ .inv .1 Q o a so l h f e) (if1′ .left) _ _ (λ b. one′ .ensures .1 o b so) (if6′ .left) _ _ (n′ .given .1) (g .0) (g .1) _ _ (λ Q b. c .before .before .before .fields .ensures .1 Q o b so) _ _ (c .before .k2 .given .1))
 
-fields-enum-known-v : (t : ℕ) → fields-lts.Need-enum-known-v (
-  one-reads.Asked,
-  one-reads.Learnt,
-  fields-below t,
-  fields.Post,
-) (fields-at t) fields.Post fields-Inv-loop fields-μ-loop
+fields-enum-known-v : (t : ℕ) → fields-lts.Need-enum-known-v (claims t) (fields-at t) fields.Post fields-Inv-loop fields-μ-loop
 fields-enum-known-v t c = search needs
 
-fields-returns-9 : (t : ℕ) → fields-lts.Need-returns-9 (
-  one-reads.Asked,
-  one-reads.Learnt,
-  fields-below t,
-  fields.Post,
-) (fields-at t) fields.Post fields-Inv-loop fields-μ-loop
-fields-returns-9 t c = let g = rw (c .before .before .before .before .before .before .before .before .n .given .1) at (c .before .before .before .before .before .before .before .before .before .before .one .ensures .0) in let w = rw (c .before .v .given .1) at (c .before .before .before .fields .ensures .0) in (tt, λ Q o a so l h f e. field-held-end Q _ _ (c .before .before .before .before .before .before .before .before .before .before .before .before .before .before .before .loop .left) l (c .before .before .before .before .before .before .before .before .before .before .before .before .before .before .loop-test .taken) (c .before .before .before .before .before .before .before .before .before .before .before .before .before .before .before .loop .inv .0 .most) (c .before .before .before .before .before .before .before .before .before .before .before .before .before .before .before .loop .inv .1 Q o a so l h f e) (c .before .before .before .before .before .before .before .before .before .before .before .before .before .if1 .left) _ _ (λ b. c .before .before .before .before .before .before .before .before .before .before .one .ensures .1 o b so) (c .before .before .before .before .before .before .if6 .left) _ _ (c .before .before .before .before .before .before .before .before .n .given .1) (g .0) (g .1) _ _ (λ Q b. c .before .before .before .fields .ensures .1 Q o b so) _ _ (c .before .v .given .1) (w .2) (w .1))
+fields-returns-9 : (t : ℕ) → fields-lts.Need-returns-9 (claims t) (fields-at t) fields.Post fields-Inv-loop fields-μ-loop
+fields-returns-9 t c =
+    let n′ = c .before .before .before .before .before .before .before .before .n in
+    let one′ = c .before .before .before .before .before .before .before .before .before .before .one in
+    let loop′ = c .before .before .before .before .before .before .before .before .before .before .before .before .before .before .before .loop in
+    let loop-test′ = c .before .before .before .before .before .before .before .before .before .before .before .before .before .before .loop-test in
+    let if1′ = c .before .before .before .before .before .before .before .before .before .before .before .before .before .if1 in
+    let if6′ = c .before .before .before .before .before .before .if6 in
+    let g = rw (n′ .given .1) at (one′ .ensures .0) in
+    let w = rw (c .before .v .given .1) at (c .before .before .before .fields .ensures .0) in
+    (tt, λ Q o a so l h f e. field-held-end Q _ _ (loop′ .left) l (loop-test′ .taken) (loop′ .inv .0 .most) (loop′ .inv .1 Q o a so l h f e) (if1′ .left) _ _ (λ b. one′ .ensures .1 o b so) (if6′ .left) _ _ (n′ .given .1) (g .0) (g .1) _ _ (λ Q b. c .before .before .before .fields .ensures .1 Q o b so) _ _ (c .before .v .given .1) (w .2) (w .1))
 
-fields-enum-known-v-2 : (t : ℕ) → fields-lts.Need-enum-known-v-2 (
-  one-reads.Asked,
-  one-reads.Learnt,
-  fields-below t,
-  fields.Post,
-) (fields-at t) fields.Post fields-Inv-loop fields-μ-loop
+fields-enum-known-v-2 : (t : ℕ) → fields-lts.Need-enum-known-v-2 (claims t) (fields-at t) fields.Post fields-Inv-loop fields-μ-loop
 fields-enum-known-v-2 t c = search needs
 
-fields-sub-left-3 : (t : ℕ) → fields-lts.Need-sub-left-3 (
-  one-reads.Asked,
-  one-reads.Learnt,
-  fields-below t,
-  fields.Post,
-) (fields-at t) fields.Post fields-Inv-loop fields-μ-loop
+fields-sub-left-3 : (t : ℕ) → fields-lts.Need-sub-left-3 (claims t) (fields-at t) fields.Post fields-Inv-loop fields-μ-loop
 fields-sub-left-3 t c = search needs
 
-fields-loop-less-5 : (t : ℕ) → fields-lts.Need-loop-less-5 (
-  one-reads.Asked,
-  one-reads.Learnt,
-  fields-below t,
-  fields.Post,
-) (fields-at t) fields.Post fields-Inv-loop fields-μ-loop
-fields-loop-less-5 t c = let g = rw (c .before .before .before .before .before .before .before .before .n .given .1) at (c .before .before .before .before .before .before .before .before .before .before .one .ensures .0) in let w = rw (c .before .v2 .given .1) at (c .before .before .before .fields .ensures .0) in omega (arith, g .2 .on, g .2 .within, w .1, w .2)
+fields-loop-less-5 : (t : ℕ) → fields-lts.Need-loop-less-5 (claims t) (fields-at t) fields.Post fields-Inv-loop fields-μ-loop
+fields-loop-less-5 t c =
+    let n′ = c .before .before .before .before .before .before .before .before .n in
+    let one′ = c .before .before .before .before .before .before .before .before .before .before .one in
+    let g = rw (n′ .given .1) at (one′ .ensures .0) in
+    let w = rw (c .before .v2 .given .1) at (c .before .before .before .fields .ensures .0) in
+    omega (arith, g .2 .on, g .2 .within, w .1, w .2)
 
-fields-loop-again-5 : (t : ℕ) → fields-lts.Need-loop-again-5 (
-  one-reads.Asked,
-  one-reads.Learnt,
-  fields-below t,
-  fields.Post,
-) (fields-at t) fields.Post fields-Inv-loop fields-μ-loop
-fields-loop-again-5 t c = let g = rw (c .before .before .before .before .before .before .before .before .n .given .1) at (c .before .before .before .before .before .before .before .before .before .before .one .ensures .0) in let w = rw (c .before .v2 .given .1) at (c .before .before .before .fields .ensures .0) in (along-held (c .before .before .before .before .before .before .before .before .before .before .before .before .before .before .before .loop .inv .0) (c .before .before .before .before .before .before .before .before .before .before .before .before .before .before .loop-test .taken) _ (g .2) (w .0) (w .1) (w .2), λ Q o a so l h f e. field-held-good Q _ _ (c .before .before .before .before .before .before .before .before .before .before .before .before .before .before .before .loop .left) l (c .before .before .before .before .before .before .before .before .before .before .before .before .before .before .loop-test .taken) (c .before .before .before .before .before .before .before .before .before .before .before .before .before .before .before .loop .inv .0 .most) (c .before .before .before .before .before .before .before .before .before .before .before .before .before .before .before .loop .inv .1 Q o a so l h f e) (c .before .before .before .before .before .before .before .before .before .before .before .before .before .if1 .left) _ _ (λ b. c .before .before .before .before .before .before .before .before .before .before .one .ensures .1 o b so) (c .before .before .before .before .before .before .if6 .left) _ _ (c .before .before .before .before .before .before .before .before .n .given .1) (g .0) (g .1) _ _ (λ Q b. c .before .before .before .fields .ensures .1 Q o b so) _ (c .before .v2 .given .1) (w .3))
+fields-loop-again-5 : (t : ℕ) → fields-lts.Need-loop-again-5 (claims t) (fields-at t) fields.Post fields-Inv-loop fields-μ-loop
+fields-loop-again-5 t c =
+    let n′ = c .before .before .before .before .before .before .before .before .n in
+    let one′ = c .before .before .before .before .before .before .before .before .before .before .one in
+    let loop′ = c .before .before .before .before .before .before .before .before .before .before .before .before .before .before .before .loop in
+    let loop-test′ = c .before .before .before .before .before .before .before .before .before .before .before .before .before .before .loop-test in
+    let if1′ = c .before .before .before .before .before .before .before .before .before .before .before .before .before .if1 in
+    let if6′ = c .before .before .before .before .before .before .if6 in
+    let g = rw (n′ .given .1) at (one′ .ensures .0) in
+    let w = rw (c .before .v2 .given .1) at (c .before .before .before .fields .ensures .0) in
+    (along-held (loop′ .inv .0) (loop-test′ .taken) _ (g .2) (w .0) (w .1) (w .2), λ Q o a so l h f e. field-held-good Q _ _ (loop′ .left) l (loop-test′ .taken) (loop′ .inv .0 .most) (loop′ .inv .1 Q o a so l h f e) (if1′ .left) _ _ (λ b. one′ .ensures .1 o b so) (if6′ .left) _ _ (n′ .given .1) (g .0) (g .1) _ _ (λ Q b. c .before .before .before .fields .ensures .1 Q o b so) _ (c .before .v2 .given .1) (w .3))
 
-fields-returns-10 : (t : ℕ) → fields-lts.Need-returns-10 (
-  one-reads.Asked,
-  one-reads.Learnt,
-  fields-below t,
-  fields.Post,
-) (fields-at t) fields.Post fields-Inv-loop fields-μ-loop
-fields-returns-10 t c = let z : c .before .loop .left ≡ 0 = omega arith in ((c .before .loop .inv .0 .fair, omega (arith, c .before .loop .inv .0 .back), c .before .loop .inv .0 .within, c .before .loop .inv .0 .rest z), λ Q o a so l h f e. at-place (ap (λ (n : ℕ). Q n (eqb (c .before .loop .keyed) 1)) z ∙ ap (λ (k : ℕ). Q 0 (eqb k 1)) (c .before .loop .inv .0 .rest z)) (c .before .loop .inv .1 Q o a so l h f e))
+fields-returns-10 : (t : ℕ) → fields-lts.Need-returns-10 (claims t) (fields-at t) fields.Post fields-Inv-loop fields-μ-loop
+fields-returns-10 t c =
+    let z : c .before .loop .left ≡ 0 = omega arith in
+    ((c .before .loop .inv .0 .fair, omega (arith, c .before .loop .inv .0 .back), c .before .loop .inv .0 .within, c .before .loop .inv .0 .rest z), λ Q o a so l h f e. at-place (ap (λ (n : ℕ). Q n (eqb (c .before .loop .keyed) 1)) z ∙ ap (λ (k : ℕ). Q 0 (eqb k 1)) (c .before .loop .inv .0 .rest z)) (c .before .loop .inv .1 Q o a so l h f e))
 
 pub +fields-spec : {M : Type 1} → statement M
-+fields-spec = done μ-fields λ t. fields-lts.spec (
-  one-reads.Asked,
-  one-reads.Learnt,
-  fields-below t,
-  fields.Post,
-)
++fields-spec = done μ-fields λ t. fields-lts.spec (claims t)
     (fields-at t)
     fields.Post
     fields-Inv-loop
