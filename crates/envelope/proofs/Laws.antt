@@ -7,7 +7,7 @@ use lib.ListN.{length, drop, getD, length-append, length-drop, List·getD-append
 use lib.Seq.{take-append-le, drop-append-le}
 use Rattle.format.specs.Limits.{max-bytes}
 use Rattle.format.specs.Answer.{fail, good}
-use Rattle.format.specs.Envelope.{opening, overhead, version}
+use Rattle.format.specs.Envelope.{max-envelope, opening, overhead, version}
 use Rattle.format.proofs.Tests.{ltb-yes, ltb-no, pick-yes, pick-no, order, equal}
 use Rattle.envelope.specs.Answers.{lengthField, missingFrom}
 use Rattle.envelope.specs.Laws.{InPieces}
@@ -47,6 +47,10 @@ module _ (bs : List ℕ) where
       (λ m. let e = missing-nothing l m in absurd (omega arith)))
       (λ l. let e = missing-length l in no-length (bs ++ more) (omega arith))
 
+  -- The longest envelope is all there.
+  all-there : max-envelope ≤ length bs → missingFrom bs ≡ 0
+  all-there l = order (lengthField bs) (1 + max-bytes) (λ m. let e = missing-rest (omega arith) m in omega arith) (missing-nothing (omega arith))
+
   module _ (more : List ℕ) (l : 2 ≤ length bs) where
     abbrev n : ℕ
     n = lengthField bs
@@ -78,4 +82,5 @@ pub in-pieces : (bs : List ℕ) → InPieces bs
 in-pieces bs = record {
   settled = λ z more. order 2 (length bs) (λ l. stays bs more l z) (λ l. let e = missing-length bs l in absurd (omega arith));
   cut = cut-short bs;
+  short = λ h. order max-envelope (length bs) (λ l. absurd (h (all-there bs l))) (λ l. l);
 }

@@ -14,4 +14,4 @@ pub const VERSION: u8 = 1;
 pub const OVERHEAD: usize = 3;
 
 // The longest envelope.
-pub const MAX_BYTES: usize = 16387;
+pub const MAX_BYTES: usize = OVERHEAD + format::Bundle::MAX_BYTES;

@@ -1,6 +1,4 @@
 -- Laws of the text, and steps of the proof by hand.
 pub mod WalkLent
-pub mod Writing
-pub mod Decimals
 pub mod Lines
 pub mod Texts

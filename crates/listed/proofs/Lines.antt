@@ -1,22 +1,12 @@
--- Lines, and parts of lines, with their first part written and the others to come. Assumes nothing.
-use mathlib.Core.Path.{_≡_}
-use mathlib.Core.List.{List, [], _∷_, _++_}
+-- Lines, with their first part written and the others to come. Assumes nothing.
+use mathlib.Core.List.{List, [], _∷_}
 use Prim.Native.Nat.{ℕ, _≤_}
-use lib.ListN.{length, drop}
+use lib.ListN.{length}
 use Rattle.format.specs.declared.row.Row.{Row}
-use Rattle.listed.specs.Text.{bundle-word, bundleLine, decimal, ended, envelope-word, envelopeText, labelled, newline, refused-word, rowLine, space}
 use Rattle.wire.specs.Output.{Puts}
-use Rattle.listed.proofs.Writing.{Stage, first, first-fits}
-
--- `copy` wrote the word
-module _ (word : List ℕ) (n : ℕ) (out : List ℕ) (capacity : length (labelled word n) ≤ length out) where
-  pub word-fits : length word ≤ length out
-  unfolding labelled
-  word-fits = first-fits word (decimal n ∷ []) out capacity
-
-  pub word-put : {l : List ℕ} {at : ℕ} → (at ≡ length word) × (l ≡ word ++ drop (length word) out) → Stage (labelled word n) out l at (decimal n ∷ [])
-  unfolding labelled
-  word-put {l} {at} p = first word (decimal n ∷ []) out capacity l at p
+use Rattle.ascii.specs.Text.{ended, labelled, newline, space}
+use Rattle.ascii.proofs.Writing.{Stage, first, first-fits}
+use Rattle.listed.specs.Text.{bundle-word, bundleLine, envelope-word, envelopeText, refused-word, rowLine}
 
 module _ (i : ℕ) (r : Row) (out : List ℕ) (capacity : length (rowLine i r) ≤ length out) where
   abbrev columns : List (List ℕ)

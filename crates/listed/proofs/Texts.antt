@@ -1,6 +1,6 @@
 -- Texts: how long they are, what a table says of a bundle's, and where there is room for them. Assumes nothing.
 use mathlib.Core.Path.{_≡_, refl, sym, ap, subst, subst⁻¹, _∙_}
-use mathlib.Core.List.{List, [], _∷_, _++_, append-nil, map, flatten}
+use mathlib.Core.List.{List, [], _∷_, _++_, map, flatten}
 use Prim.Native.Nat.{ℕ, suc, _+_, _*_, _≤_, _<_}
 use native.Mathlib.Numerals.{add-one}
 use native.Mathlib.Omega.{arith}
@@ -9,48 +9,30 @@ use lib.Seq.{drop-cons}
 use Rattle.format.specs.declared.bundle.Bundle.{Bundle}
 use Rattle.format.specs.declared.row.Row.{Row}
 use Rattle.format.specs.Limits.{max-rows}
-use Rattle.format.specs.Answer.{Answer, failed, good, stored, then}
+use Rattle.format.specs.Answer.{Answer, errorIn, failed, good, placeIn, stored, then}
 use Rattle.format.specs.Reading.{State, counts, countsOf, lenient, reading}
 use Rattle.format.specs.Rows.{rowOf, rows}
 use Rattle.format.proofs.Tests.{ltb-no, ltb-yes, pick-no, pick-yes}
 use Rattle.format.proofs.Lists.{length-items}
 use Rattle.format.proofs.Bounds.{reading-within}
 use Rattle.reader.specs.Answers.{answerOf, rowsIn}
-use Rattle.listed.specs.declared.table.Table.{Table}
-use Rattle.listed.specs.Text.{bundleLine, bundle-word, decimal, ended, envelopeText, envelope-word, firstLine, labelled, max-text, names-word, newline, refused-word, at-word, rowLine, rowLines, rows-word, rowsOf, space, text, within}
 use Rattle.wire.specs.Output.{Puts}
-use Rattle.listed.specs.Promises.{Tabled, blank}
-use Rattle.listed.proofs.Decimals.{length-decimal}
-use Rattle.listed.proofs.Writing.{Stage, first-fits, first, ends}
+use Rattle.ascii.specs.Text.{ascii, ended, labelled, newline, space}
+use Rattle.ascii.proofs.Lengths.{length-ended, length-flatten, length-four, length-labelled, length-one}
+use Rattle.ascii.proofs.Writing.{Stage, first-fits, first, ends}
+use Rattle.listed.specs.declared.table.Table.{Table}
+use Rattle.listed.specs.Text.{at-word, bundle-word, bundleLine, envelope-word, envelopeText, firstLine, max-text, names-word, refused-word, rowLine, rowLines, rows-word, rowsOf, text, toldWithin, within}
+use Rattle.listed.specs.Promises.{Prints, Tabled, blank, printedOf}
 
 -- ---- lengths
 
-length-flatten : (p : List ℕ) (ps : List (List ℕ)) → length (flatten (p ∷ ps)) ≡ length p + length (flatten ps)
-unfolding flatten
-length-flatten p ps = length-append p (flatten ps)
-
-length-one : (p : List ℕ) → length (flatten (p ∷ [])) ≡ length p
-unfolding flatten
-length-one p = ap length (append-nil p)
-
-length-ended : (n end : ℕ) → length (ended n end) ≤ 21
-unfolding ended
-length-ended n end = omega (arith, length-flatten (decimal n) ((end ∷ []) ∷ []), length-one (end ∷ []), length-decimal n)
-
-length-labelled : (word : List ℕ) (n : ℕ) → length (labelled word n) ≤ length word + 20
-unfolding labelled
-length-labelled word n = omega (arith, length-flatten word (decimal n ∷ []), length-one (decimal n), length-decimal n)
-
-length-four : (a b c d : List ℕ) → length (flatten (a ∷ b ∷ c ∷ d ∷ [])) ≡ length a + length b + length c + length d
-length-four a b c d = omega (arith, length-flatten a (b ∷ c ∷ d ∷ []), length-flatten b (c ∷ d ∷ []), length-flatten c (d ∷ []), length-one d)
-
 length-line : (k : ℕ) (word : List ℕ) (n : ℕ) (other : List ℕ) (m : ℕ) → length (bundleLine k word n other m) ≤ 68 + length word + length other
-unfolding bundleLine
+unfolding ascii bundleLine
 length-line k word n other m =
     omega (arith, length-four (labelled bundle-word k) (labelled word n) (labelled other m) (newline ∷ []), length-labelled bundle-word k, length-labelled word n, length-labelled other m)
 
 length-first : (k : ℕ) (r : Answer Bundle) → length (firstLine k r) ≤ 81
-unfolding firstLine
+unfolding ascii firstLine
 length-first k (good b) = length-line k rows-word (b .rows) names-word (b .entries)
 length-first k (failed r) = length-line k refused-word (r .code) at-word (r .place)
 
@@ -65,7 +47,7 @@ length-rows i [] = omega arith
 length-rows i (r ∷ rs) = omega (arith, length-append (rowLine i r) (flatten (rowLines (suc i) rs)), length-row i r, length-rows (suc i) rs)
 
 pub envelope-short : (k x : ℕ) → length (envelopeText k x) ≤ max-text
-unfolding envelopeText
+unfolding ascii envelopeText
 envelope-short k x =
     omega (arith, length-flatten (labelled envelope-word k) (labelled refused-word x ∷ (newline ∷ []) ∷ []), length-flatten (labelled refused-word x) ((newline ∷ []) ∷ []), length-one (newline ∷ []), length-labelled envelope-word k, length-labelled refused-word x)
 
@@ -139,11 +121,28 @@ module _ (bs : List ℕ) where
 
 -- ---- a buffer
 
-module _ (bs out : List ℕ) where
-  pub put-none : length out < max-text → Puts (within (length out) bs) 0 out out
+module _ (out : List ℕ) (l : length out < max-text) where
+  pub put-none : (bs : List ℕ) → Puts (within (length out) bs) 0 out out
   unfolding within
-  put-none l = let e = pick-yes [] bs (ltb-yes l) in rw e (refl, refl)
+  put-none bs = let e = pick-yes [] bs (ltb-yes l) in rw e (refl, refl)
 
-  pub put-all : (r : ℕ) (l : List ℕ) → max-text ≤ length out → Puts bs r out l → Puts (within (length out) bs) r out l
+  told-none : (n : ℕ) → 0 ≡ toldWithin (length out) n
+  unfolding toldWithin
+  told-none n = sym (pick-yes 0 n (ltb-yes l))
+
+  pub prints-none : (k : ℕ) (bs : List ℕ) → Prints k bs out (record { written = 0; error = 0; place = 0 }) out
+  prints-none k bs = record { puts = put-none (text k bs); error = told-none (errorIn (counts lenient bs)); place = told-none (placeIn (counts lenient bs)) }
+
+module _ (out : List ℕ) (g : max-text ≤ length out) where
+  pub put-all : {l : List ℕ} {n : ℕ} (bs : List ℕ) → Puts bs n out l → Puts (within (length out) bs) n out l
   unfolding within
-  put-all r l g q = let e = pick-no [] bs (ltb-no g) in subst⁻¹ (λ (w : List ℕ). Puts w r out l) e q
+  put-all {l} {n} bs q = let e = pick-no [] bs (ltb-no g) in subst⁻¹ (λ (w : List ℕ). Puts w n out l) e q
+
+  told-all : (x : ℕ) → x ≡ toldWithin (length out) x
+  unfolding toldWithin
+  told-all x = sym (pick-no 0 x (ltb-no g))
+
+  pub prints-all : {l : List ℕ} {n : ℕ} (k : ℕ) (bs : List ℕ) (t : Table) → Tabled bs t → Puts (text k bs) n out l
+      → Prints k bs out (printedOf n (answerOf (t .answer))) l
+  prints-all k bs t p q =
+      record { puts = put-all (text k bs) q; error = ap errorIn (p .answer) ∙ told-all (errorIn (counts lenient bs)); place = ap placeIn (p .answer) ∙ told-all (placeIn (counts lenient bs)) }

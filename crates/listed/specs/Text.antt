@@ -1,6 +1,6 @@
 -- The text of `listing` (document 01, "Envelope and programs"), in ASCII: what is printed for one envelope.
-use Prim.Native.Nat.{ℕ, zero, suc, _+_, _/_, _%_}
-use mathlib.Core.List.{List, [], _∷_, _++_, flatten}
+use Prim.Native.Nat.{ℕ, suc}
+use mathlib.Core.List.{List, [], _∷_, flatten}
 use lib.Dec.{ltb}
 use Rattle.format.specs.declared.bundle.Bundle.{Bundle}
 use Rattle.format.specs.declared.row.Row.{Row}
@@ -8,57 +8,27 @@ use Rattle.format.specs.Choice.{pick}
 use Rattle.format.specs.Answer.{Answer, failed, good}
 use Rattle.format.specs.Reading.{counts, lenient}
 use Rattle.format.specs.Rows.{rows}
-
--- ---- numbers
-
--- n in decimal, in at most so many digits
-unfoldable pub decimalIn : ℕ → ℕ → List ℕ
-decimalIn zero n = []
-decimalIn (suc k) n = let front = decimalIn k (n / 10) in pick (ltb n 10) ((48 + n) ∷ []) (front ++ ((48 + n % 10) ∷ []))
-
--- A number of 64 bits has at most 20 digits.
-unfoldable pub decimal : ℕ → List ℕ
-decimal n = decimalIn 20 n
+use Rattle.ascii.specs.Text.{ascii, ended, labelled, newline, space}
 
 -- ---- words
 
-abbrev pub space : ℕ
-space = 32
-
-abbrev pub newline : ℕ
-newline = 10
-
--- `bundle `
 abbrev pub bundle-word : List ℕ
-bundle-word = 98 ∷ 117 ∷ 110 ∷ 100 ∷ 108 ∷ 101 ∷ space ∷ []
+bundle-word = ascii "bundle "
 
--- `envelope `
 abbrev pub envelope-word : List ℕ
-envelope-word = 101 ∷ 110 ∷ 118 ∷ 101 ∷ 108 ∷ 111 ∷ 112 ∷ 101 ∷ space ∷ []
+envelope-word = ascii "envelope "
 
--- ` rows `
 abbrev pub rows-word : List ℕ
-rows-word = space ∷ 114 ∷ 111 ∷ 119 ∷ 115 ∷ space ∷ []
+rows-word = ascii " rows "
 
--- ` names `
 abbrev pub names-word : List ℕ
-names-word = space ∷ 110 ∷ 97 ∷ 109 ∷ 101 ∷ 115 ∷ space ∷ []
+names-word = ascii " names "
 
--- ` refused `
 abbrev pub refused-word : List ℕ
-refused-word = space ∷ 114 ∷ 101 ∷ 102 ∷ 117 ∷ 115 ∷ 101 ∷ 100 ∷ space ∷ []
+refused-word = ascii " refused "
 
--- ` at `
 abbrev pub at-word : List ℕ
-at-word = space ∷ 97 ∷ 116 ∷ space ∷ []
-
--- a word and a number
-unfoldable pub labelled : List ℕ → ℕ → List ℕ
-labelled word n = flatten (word ∷ decimal n ∷ [])
-
--- a number and the byte after it
-unfoldable pub ended : ℕ → ℕ → List ℕ
-ended n end = flatten (decimal n ∷ (end ∷ []) ∷ [])
+at-word = ascii " at "
 
 -- ---- lines
 
@@ -104,3 +74,7 @@ max-text = 86097
 -- Of a buffer with so many bytes: a text is written where any would fit, and else nothing.
 unfoldable pub within : ℕ → List ℕ → List ℕ
 within capacity bs = pick (ltb capacity max-text) [] bs
+
+-- So for a number that is answered: else it is 0.
+unfoldable pub toldWithin : ℕ → ℕ → ℕ
+toldWithin capacity n = pick (ltb capacity max-text) 0 n

@@ -4,8 +4,8 @@ ghost use lib.ListN.{length};
 ghost use Rattle.reader.specs.Answers.{answerOf};
 ghost use Rattle.listed.specs.Text.{rowLine, bundleLine, firstLine, envelopeText};
 ghost use Rattle.wire.specs.Output.{Puts};
-use crate::number::put_ended;
-use crate::number::put_labelled;
+use ascii::put_ended;
+use ascii::put_labelled;
 use format::Row;
 use reader::Checked;
 

@@ -2,8 +2,9 @@
 ghost use mathlib.Core.Path.{_≡_};
 ghost use lib.ListN.{length};
 ghost use Rattle.reader.specs.Answers.{answerOf, rowsIn};
-ghost use Rattle.listed.specs.Text.{text, envelopeText, within};
 ghost use Rattle.wire.specs.Output.{Puts};
+ghost use Rattle.listed.specs.Text.{envelopeText, within};
+ghost use Rattle.listed.specs.Promises.{Prints, printedOf};
 use crate::line::put_envelope;
 use crate::line::put_first;
 use crate::line::put_row;
@@ -17,6 +18,13 @@ impl Text {
     pub const MAX_LEN: usize = 86097;
 }
 
+// How many bytes were written, and why the bundle is refused: the error's number and place, 0 and 0 where it reads.
+pub struct Printed {
+    pub written: usize,
+    pub error: u8,
+    pub place: usize,
+}
+
 // How many rows are printed.
 fn row_count(answer: Checked) -> usize
     ensures { λ r. ⌜ r ≡ rowsIn (answerOf answer) ⌝ }
@@ -27,12 +35,34 @@ fn row_count(answer: Checked) -> usize
     }
 }
 
-// The text for the bundle of envelope k, and how long it is; 0, and no byte changed, where the buffer is shorter than `Text::MAX_LEN`.
-pub fn put_bundle(k: u64, bundle: &[u8], out: &mut [u8]) -> usize
-    ensures { λ r. ⌜ Puts (within (length (now (out .entry))) (text k (now (bundle .entry)))) r (now (out .entry)) (now (out .exit)) ⌝ }
+// How many bytes were written, with what reading answered.
+fn answered(answer: Checked, written: usize) -> Printed
+    ensures { λ r. ⌜ r ≡ printedOf written (answerOf answer) ⌝ }
+{
+    match answer {
+        Checked::Good(_) => Printed {
+            written,
+            error: 0,
+            place: 0,
+        },
+        Checked::Failed(e, p) => Printed {
+            written,
+            error: e.code(),
+            place: p,
+        },
+    }
+}
+
+// The text for the bundle of envelope k; all 0, and no byte changed, where the buffer is shorter than `Text::MAX_LEN`.
+pub fn put_bundle(k: u64, bundle: &[u8], out: &mut [u8]) -> Printed
+    ensures { λ r. ⌜ Prints k (now (bundle .entry)) (now (out .entry)) r (now (out .exit)) ⌝ }
 {
     if out.len() < Text::MAX_LEN {
-        return 0;
+        return Printed {
+            written: 0,
+            error: 0,
+            place: 0,
+        };
     }
     let t = Table::read(bundle);
     let answer = t.answer;
@@ -43,10 +73,10 @@ pub fn put_bundle(k: u64, bundle: &[u8], out: &mut [u8]) -> usize
         at += put_row(i as u64, t.rows[i], &mut out[at..]);
         i += 1;
     }
-    at
+    answered(answer, at)
 }
 
-// The same for envelope k where it is refused with a number.
+// The text for envelope k where it is refused with a number, and how long it is; 0, and no byte changed, in a buffer that is shorter.
 pub fn put_envelope_error(k: u64, number: u8, out: &mut [u8]) -> usize
     ensures { λ r. ⌜ Puts (within (length (now (out .entry))) (envelopeText k number)) r (now (out .entry)) (now (out .exit)) ⌝ }
 {

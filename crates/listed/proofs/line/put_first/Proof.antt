@@ -6,8 +6,9 @@ use lib.ListN.{length}
 use Rattle.format.specs.Answer.{fail}
 use Rattle.reader.specs.declared.checking.Checked.{Checked}
 use Rattle.reader.specs.Answers.{answerOf}
-use Rattle.listed.specs.Text.{at-word, bundleLine, firstLine, refused-word}
 use Rattle.wire.specs.Output.{Puts}
+use Rattle.ascii.specs.Text.{ascii}
+use Rattle.listed.specs.Text.{at-word, bundleLine, firstLine, refused-word}
 use borrow.Author.Needs.{needs}
 use Rattle.listed.proofs.line.put_first.Statement.{statement}
 use Rattle.listed.proofs.line.put_first.Tie as tie
@@ -22,7 +23,7 @@ slice-aggregate-put-bundle-line-2 : tie.Need-slice-aggregate-put-bundle-line-2
 slice-aggregate-put-bundle-line-2 c = search needs
 
 put-bundle-line-requires : tie.Need-put-bundle-line-requires
-unfolding firstLine
+unfolding ascii firstLine
 put-bundle-line-requires c κs =
     let s = c .before .before .before .before .before .before .before in
     let e = sym (ap (λ (a : Checked). firstLine (s .args .k) (answerOf a)) (c .before .before .before .before .answer .given .1)) in
@@ -44,7 +45,7 @@ slice-aggregate-put-bundle-line-4 : tie.Need-slice-aggregate-put-bundle-line-4
 slice-aggregate-put-bundle-line-4 c = search needs
 
 put-bundle-line-requires-2 : tie.Need-put-bundle-line-requires-2
-unfolding firstLine fail
+unfolding ascii firstLine fail
 put-bundle-line-requires-2 c κs =
     let s = c .before .before .before .before .before .before .before .before in
     let answer2′ = c .before .before .before .before .before .answer2 in
@@ -55,7 +56,7 @@ same-length : tie.Need-same-length
 same-length c = search needs
 
 returns : tie.Need-returns
-unfolding firstLine
+unfolding ascii firstLine
 returns c =
     let s = c .before .before .before .before .before .before .before .before .before .before in
     let e = sym (ap (λ (a : Checked). firstLine (s .args .k) (answerOf a)) (c .before .before .before .before .before .before .before .answer .given .1)) in
@@ -65,7 +66,7 @@ same-length-2 : tie.Need-same-length-2
 same-length-2 c = search needs
 
 returns-2 : tie.Need-returns-2
-unfolding firstLine fail
+unfolding ascii firstLine fail
 returns-2 c =
     let s = c .before .before .before .before .before .before .before .before .before .before .before in
     let answer2′ = c .before .before .before .before .before .before .before .before .answer2 in

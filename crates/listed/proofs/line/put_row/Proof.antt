@@ -1,6 +1,6 @@
 -- `listed::line::put_row` meets its contract: four numbers, one after the other. Assumes nothing.
 use native.Mathlib.Omega.{arith}
-use Rattle.listed.proofs.Writing.{room, fits, next, ends}
+use Rattle.ascii.proofs.Writing.{room, fits, next, ends}
 use Rattle.listed.proofs.Lines.{index-fits, index-put}
 use borrow.Author.Needs.{needs}
 use Rattle.listed.proofs.line.put_row.Statement.{statement}

@@ -1,25 +1,27 @@
 -- `listed::text::put_bundle` meets its contract. The loop's invariant: of the text the lines from row i on are to come, of the buffer as the first line left it. Assumes nothing.
-use mathlib.Core.Path.{_∙_}
+use mathlib.Core.Path.{subst⁻¹, _∙_}
 use Prim.Native.Nat.{_-_, _≤_, _<_}
 use native.Mathlib.Omega.{arith}
 use lib.ListN.{length, drop}
+use Rattle.listed.specs.declared.text.Printed.{Printed}
 use Rattle.listed.specs.Text.{rowLines, text}
-use Rattle.listed.proofs.Texts.{printed, few-rows, last, row-count, turn, line-fits, line-put, put-none, put-all}
-use Rattle.listed.proofs.Writing.{Stage, room, fits, next, afresh, since}
+use Rattle.listed.specs.Promises.{Prints}
+use Rattle.listed.proofs.Texts.{printed, few-rows, last, row-count, turn, line-fits, line-put, prints-none, prints-all}
+use Rattle.ascii.proofs.Writing.{Stage, room, fits, next, afresh, since}
 use borrow.Author.Needs.{needs}
 use Rattle.listed.proofs.text.put_bundle.Statement.{statement}
 use Rattle.listed.proofs.text.put_bundle.Tie as tie
 
 abbrev Inv-loop : tie.InvT-loop
-Inv-loop k bundle out₀ t at₀ n i₀ out at i = (i ≤ n) × (at₀ ≤ at) × Stage (text k bundle) out₀ out at (rowLines i (drop i (printed bundle)))
+Inv-loop k bundle out₀ t answer at₀ n i₀ out at i = (i ≤ n) × (at₀ ≤ at) × Stage (text k bundle) out₀ out at (rowLines i (drop i (printed bundle)))
 
 abbrev μ-loop : tie.MeasureT-loop
-μ-loop k bundle out₀ t at₀ n i₀ out at i = n - i
+μ-loop k bundle out₀ t answer at₀ n i₀ out at i = n - i
 
 returns : tie.Need-returns Inv-loop μ-loop
 returns c =
     let s = c .before .before .before in
-    put-none (text (s .args .k) (s .args .bundle .now)) (s .args .out .now) (c .if1 .taken)
+    prints-none (s .args .out .now) (c .if1 .taken) (s .args .k) (s .args .bundle .now)
 
 read-requires : tie.Need-read-requires Inv-loop μ-loop
 read-requires c κs = search needs
@@ -112,25 +114,30 @@ loop-again c =
     let q = turn (s .args .bundle .now) (read′ .result) (read′ .ensures) (loop′ .inv .2) g in
     (omega (arith, loop-test′ .taken), omega (arith, loop′ .inv .1), next q _ _ (c .before .before .put-row .ensures))
 
+answered-requires : tie.Need-answered-requires Inv-loop μ-loop
+answered-requires c κs = search needs
+
 same-length : tie.Need-same-length Inv-loop μ-loop
 same-length c =
-    let s = c .before .before .before .before .before .before .before .before .before .before .before in
-    let read′ = c .before .before .before .before .before .before .before .read in
-    let if1′ = c .before .before .before .before .before .before .before .before .if1 in
-    let put-first′ = c .before .before .before .before .before .put-first in
+    let s = c .before .before .before .before .before .before .before .before .before .before .before .before in
+    let read′ = c .before .before .before .before .before .before .before .before .read in
+    let if1′ = c .before .before .before .before .before .before .before .before .before .if1 in
+    let put-first′ = c .before .before .before .before .before .before .put-first in
     let p = line-put (s .args .bundle .now) (read′ .result) (read′ .ensures) (s .args .k) (s .args .out .now) (if1′ .left) _ _ (put-first′ .ensures) in
-    since p (c .before .loop .inv .2) (c .before .loop .inv .1) .wrote .long
+    since p (c .before .before .loop .inv .2) (c .before .before .loop .inv .1) .wrote .long
 
 returns-2 : tie.Need-returns-2 Inv-loop μ-loop
 returns-2 c =
-    let s = c .before .before .before .before .before .before .before .before .before .before .before in
-    let read′ = c .before .before .before .before .before .before .before .read in
-    let if1′ = c .before .before .before .before .before .before .before .before .if1 in
-    let put-first′ = c .before .before .before .before .before .put-first in
+    let s = c .before .before .before .before .before .before .before .before .before .before .before .before in
+    let read′ = c .before .before .before .before .before .before .before .before .read in
+    let if1′ = c .before .before .before .before .before .before .before .before .before .if1 in
+    let put-first′ = c .before .before .before .before .before .before .put-first in
+    let loop′ = c .before .before .loop in
     let p = line-put (s .args .bundle .now) (read′ .result) (read′ .ensures) (s .args .k) (s .args .out .now) (if1′ .left) _ _ (put-first′ .ensures) in
-    let count = c .before .before .row-count .ensures ∙ row-count (s .args .bundle .now) (read′ .result) (read′ .ensures) in
-    let q = last (s .args .bundle .now) (since p (c .before .loop .inv .2) (c .before .loop .inv .1)) (omega (arith, count, c .loop-test .left)) in
-    put-all (text (s .args .k) (s .args .bundle .now)) (s .args .out .now) _ _ (if1′ .left) q
+    let count = c .before .before .before .row-count .ensures ∙ row-count (s .args .bundle .now) (read′ .result) (read′ .ensures) in
+    let q = last (s .args .bundle .now) (since p (loop′ .inv .2) (loop′ .inv .1)) (omega (arith, count, c .before .loop-test .left)) in
+    let told = prints-all (s .args .out .now) (if1′ .left) (s .args .k) (s .args .bundle .now) (read′ .result) (read′ .ensures) q in
+    subst⁻¹ (λ (r : Printed). Prints (s .args .k) (s .args .bundle .now) (s .args .out .now) r (loop′ .out)) (c .answered .ensures) told
 
 pub put-bundle-spec : {M : Type 1} → statement M
 put-bundle-spec =
@@ -153,5 +160,6 @@ put-bundle-spec =
     add-i
     loop-less
     loop-again
+    answered-requires
     same-length
     returns-2)

@@ -17,7 +17,13 @@ same-length : tie.Need-same-length
 same-length c = search needs
 
 returns : tie.Need-returns
-returns c = let q = ap (λ (o : Outcome). o .error) (c .before .before .before .before .before .before .open-error .ensures) in lists-error _ _ _ (λ z. absurd (omega (arith, q, z))) (rw q at (c .before .before .put-envelope-error .ensures))
+returns c =
+    let put-envelope-error′ = c .before .before in
+    let if1′ = put-envelope-error′ .before .before in
+    let open-error′ = if1′ .before .before in
+    let start = open-error′ .before .before .before in
+    lists-error _ _ _ (start .pre) (open-error′ .open-error .result) (open-error′ .open-error .ensures)
+    (λ z. absurd (omega (arith, z, if1′ .if1 .taken))) (put-envelope-error′ .put-envelope-error .ensures)
 
 open-requires : tie.Need-open-requires
 open-requires c κs = search needs
@@ -33,9 +39,14 @@ same-length-2 c = search needs
 
 returns-2 : tie.Need-returns-2
 returns-2 c =
-    let open-error′ = c .before .before .before .before .before .before .before .open-error in
-    let q = ap (λ (o : Outcome). o .error) (open-error′ .ensures) in
-    lists-bundle _ _ _ _ (omega (arith, q)) (c .before .before .before .before .«open» .ensures) (c .before .before .put-bundle .ensures)
+    let put-bundle′ = c .before .before in
+    let open′ = put-bundle′ .before .before in
+    let if1′ = open′ .before in
+    let open-error′ = if1′ .before .before in
+    let start = open-error′ .before .before .before in
+    let q = ap (λ (o : Outcome). o .error) (open-error′ .open-error .ensures) in
+    lists-bundle _ _ _ (start .pre) _ (omega (arith, q, if1′ .if1 .left)) (open′ .«open» .ensures)
+    (put-bundle′ .put-bundle .result) (put-bundle′ .put-bundle .ensures)
 
 pub list-spec : {M : Type 1} → statement M
 list-spec =

@@ -1,5 +1,8 @@
 -- `stream::input::pull` meets its contract. Assumes nothing.
 use mathlib.Core.Path.{refl}
+use mir.Syntax.{w64}
+use mir.Val.{ofZ}
+use borrow.Author.Tests.{eqb-true}
 use native.Mathlib.Omega.{arith}
 use Rattle.stream.proofs.WindowLaws.{pulled}
 use borrow.Author.Needs.{needs}
@@ -39,18 +42,20 @@ part-count-end c = search needs
 count-requires : tie.Need-count-requires
 count-requires c κs = search needs
 
-add-t11 : tie.Need-add-t11
-add-t11 c = search needs
+add-t12 : tie.Need-add-t12
+add-t12 c = search needs
 
 same-length : tie.Need-same-length
 same-length c = search needs
 
 returns : tie.Need-returns
 returns c =
-    let s = c .before .before .before .before .before .before .before .before .before .before .before .before .before .before .before in
-    let compact′ = c .before .before .before .before .before .before .before .before .before .before .before .compact in
-    let read′ = c .before .before .before .before .before .before .before .read in
-    pulled (s .args .w) _ (s .args .buffer .now) (compact′ .last .0) (read′ .last .1 .0) _ (compact′ .ensures .0) (compact′ .ensures .1) refl (omega arith) (omega arith) (search needs)
+    let read′ = c .before .before .before .before .before .before .before in
+    let compact′ = read′ .before .before .before .before in
+    let s = compact′ .before .before .before .before in
+    let compacted = compact′ .compact in
+    pulled (s .args .w) _ (s .args .buffer .now) (compacted .last .0) (read′ .read .last .1 .0) _ (compacted .ensures .0) (compacted .ensures .1) refl (omega arith) (omega arith) (search needs)
+    (λ e. let zero = eqb-true (ofZ w64 (read′ .read .result)) 0 e in let none = rw zero at (c .count .ensures .1) in omega (arith, none))
 
 pub pull-spec : {M : Type 1} → statement M
 pull-spec =
@@ -67,6 +72,6 @@ pull-spec =
     part-count-start
     part-count-end
     count-requires
-    add-t11
+    add-t12
     same-length
     returns)

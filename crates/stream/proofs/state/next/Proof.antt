@@ -4,17 +4,18 @@ use Rattle.stream.proofs.WindowLaws.{ends, part-length, reads, takes, t
 use borrow.Author.Needs.{needs}
 use Rattle.stream.proofs.state.next.Statement.{statement}
 use Rattle.stream.proofs.state.next.Tie as tie
-use Rattle.stream.proofs.state.next.Reads as reads
 
 returns : tie.Need-returns
 returns c =
     let s = c .before .before .before .before in
-    ends _ (c .before .if1 .taken) (let p = s .pre in omega (arith, part-length (s .args .s .window .start) (s .args .s .window .end) (s .args .input .now) (p .1)))
+    let w = s .args .s .window in
+    ends _ (c .before .if1 .taken) (let p = s .pre in omega (arith, part-length (w .start) (w .end) (s .args .input .now) (p .1)))
 
 returns-2 : tie.Need-returns-2
 returns-2 c =
     let s = c .before .before .before .before in
-    takes-last _ (c .before .if1 .taken) (λ z. let p = s .pre in absurd (omega (arith, z, part-length (s .args .s .window .start) (s .args .s .window .end) (s .args .input .now) (p .1))))
+    let w = s .args .s .window in
+    takes-last _ (c .before .if1 .taken) (λ z. let p = s .pre in absurd (omega (arith, z, part-length (w .start) (w .end) (s .args .input .now) (p .1))))
 
 sub-missing : tie.Need-sub-missing
 sub-missing c = search needs

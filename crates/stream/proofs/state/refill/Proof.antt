@@ -1,5 +1,6 @@
 -- `stream::state::refill` meets its contract. Assumes nothing.
-use Rattle.stream.proofs.WindowLaws.{stayed}
+use mathlib.Core.Path.{refl}
+use Rattle.stream.proofs.StateLaws.{unpulled}
 use borrow.Author.Needs.{needs}
 use Rattle.stream.proofs.state.refill.Statement.{statement}
 use Rattle.stream.proofs.state.refill.Tie as tie
@@ -8,7 +9,7 @@ flush-requires : tie.Need-flush-requires
 flush-requires c κs = search needs
 
 returns : tie.Need-returns
-returns c = (stayed _ _ _ (c .before .before .before .before .before .before .pre .0) (c .before .flush .ensures .0), c .before .flush .ensures .1)
+returns c = unpulled _ (c .before .flush .result) (c .before .flush .ensures) _ (c .before .before .before .before .before .before .pre .0 .0)
 
 pull-requires : tie.Need-pull-requires
 pull-requires c κs = search needs
@@ -17,7 +18,7 @@ same-length : tie.Need-same-length
 same-length c = search needs
 
 returns-2 : tie.Need-returns-2
-returns-2 c = search needs
+returns-2 c = record { pulls = c .before .before .before .pull .ensures; state = refl }
 
 pub refill-spec : {M : Type 1} → statement M
 refill-spec = tie.close (tie.spec flush-requires returns pull-requires same-length returns-2)

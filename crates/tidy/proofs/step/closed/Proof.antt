@@ -1,7 +1,5 @@
 -- `tidy::step::closed` meets its contract: what `close` answers. Assumes nothing.
-use mathlib.Core.Path.{refl, ap}
-use Rattle.format.specs.Answer.{fail}
-use Rattle.tidy.specs.Tidied.{countIn}
+use Rattle.tidy.proofs.TidyLaws.{closed-done, closed-failed}
 use borrow.Author.Needs.{needs}
 use Rattle.tidy.proofs.step.closed.Statement.{statement}
 use Rattle.tidy.proofs.step.closed.Tie as tie
@@ -9,8 +7,11 @@ use Rattle.tidy.proofs.step.closed.Tie as tie
 close-requires : tie.Need-close-requires
 close-requires c κs = search needs
 
-enum-told : tie.Need-enum-told
-enum-told c = search needs
+enum-known-e : tie.Need-enum-known-e
+enum-known-e c = search needs
+
+refused-requires : tie.Need-refused-requires
+refused-requires c κs = search needs
 
 enum-known-written : tie.Need-enum-known-written
 enum-known-written c = search needs
@@ -19,26 +20,30 @@ same-length : tie.Need-same-length
 same-length c = search needs
 
 returns : tie.Need-returns
-unfolding countIn fail
 returns c =
-    let s = c .before .before .before .before in
-    record { taken = refl; written = ap countIn (rw (c .enum-told .given .1) at (s .close .ensures .answer)); buffer = s .close .ensures .buffer }
+    let refused′ = c in
+    let e′ = refused′ .before .before in
+    let close′ = e′ .before .before .before .before in
+    let κs′ = close′ .before .before .before .before in
+    closed-failed _ _ _ (rw (e′ .e .given .1) at (close′ .close .ensures)) (refused′ .refused .ensures)
 
 same-length-2 : tie.Need-same-length-2
 same-length-2 c = search needs
 
 returns-2 : tie.Need-returns-2
-unfolding countIn fail
 returns-2 c =
-    let s = c .before .before .before .before .before in
-    record { taken = refl; written = ap countIn (rw (c .before .written .given .1) at (s .close .ensures .answer)); buffer = s .close .ensures .buffer }
+    let written′ = c .before in
+    let close′ = written′ .before .before .before .before in
+    let κs′ = close′ .before .before .before .before in
+    closed-done _ _ _ (rw (written′ .written .given .1) at (close′ .close .ensures))
 
 pub closed-spec : {M : Type 1} → statement M
 closed-spec =
     tie.close
     (tie.spec
     close-requires
-    enum-told
+    enum-known-e
+    refused-requires
     enum-known-written
     same-length
     returns

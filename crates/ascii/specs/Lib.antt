@@ -1,0 +1,2 @@
+-- Text in ASCII.
+pub mod Text

@@ -1,0 +1,6 @@
+// Text in ASCII: words, and numbers in decimal.
+mod number;
+
+pub use number::put_decimal;
+pub use number::put_ended;
+pub use number::put_labelled;

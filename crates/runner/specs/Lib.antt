@@ -1,0 +1,2 @@
+-- The programs, by what they make of one envelope.
+pub mod Program
