@@ -3,10 +3,12 @@
 pub mod buffer;
 pub mod cases;
 pub mod expected;
+pub mod folder;
 pub mod inputs;
 pub mod items;
 mod pipe;
 pub mod program;
+pub mod refusals;
 pub mod row;
 pub mod run;
 pub mod streams;

@@ -1,9 +1,9 @@
-//! A process that is given its standard input bit by bit and whose output is taken meanwhile.
+//! A process that is given its standard input bit by bit and whose output and errors are taken meanwhile.
 
 use std::io::{self, Read, Write};
 use std::process::{Child, ChildStdin, Command, ExitStatus, Stdio};
 use std::sync::mpsc::{sync_channel, Receiver, RecvTimeoutError, SyncSender};
-use std::thread;
+use std::thread::{self, JoinHandle};
 use std::time::Duration;
 
 use crate::pipe::Pipe;
@@ -24,10 +24,11 @@ impl Printed {
     }
 }
 
-/// A process whose output a thread takes as it comes.
+/// A process whose output a thread takes as it comes, and another what it says.
 pub struct Run {
     child: Child,
     output: Receiver<Vec<u8>>,
+    error: JoinHandle<Vec<u8>>,
     /// Output that was received and not yet handed on.
     received: Vec<u8>,
 }
@@ -41,9 +42,12 @@ impl Run {
         // Bounded, so that a long output is not kept.
         let (sender, output) = sync_channel(64);
         thread::spawn(move || forward(stdout, &sender));
+        let stderr = child.stderr.take().expect("a pipe");
+        let error = thread::spawn(|| taken(stderr));
         Run {
             child,
             output,
+            error,
             received: Vec::new(),
         }
     }
@@ -84,11 +88,10 @@ impl Run {
         while let Some(bytes) = self.next_bytes() {
             output.extend(bytes);
         }
-        let rest = self.child.wait_with_output().expect("a process that ends");
         Printed {
             output,
-            error: rest.stderr,
-            status: rest.status,
+            error: self.error.join().expect("a thread that ends"),
+            status: self.child.wait().expect("a process that ends"),
         }
     }
 
@@ -125,4 +128,10 @@ fn forward(mut stdout: impl Read, sender: &SyncSender<Vec<u8>>) {
             break;
         }
     }
+}
+
+fn taken(mut stderr: impl Read) -> Vec<u8> {
+    let mut bytes = Vec::new();
+    stderr.read_to_end(&mut bytes).expect("a pipe that is read");
+    bytes
 }

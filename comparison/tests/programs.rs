@@ -55,6 +55,28 @@ fn errors(listing: &[u8]) -> BTreeSet<u64> {
     refused.filter_map(number).collect()
 }
 
+/// Stored streams with what is printed for them, not by the reference.
+#[test]
+fn stored_streams() {
+    let stored = [
+        (
+            LISTING,
+            &include_bytes!("data/listing.in")[..],
+            &include_bytes!("data/listing.out")[..],
+        ),
+        (
+            TIDY,
+            include_bytes!("data/tidy.in"),
+            include_bytes!("data/tidy.out"),
+        ),
+    ];
+    for (program, input, output) in stored {
+        let printed = program.run().given(input);
+        assert_eq!(printed.output, output, "{}", program.name);
+        program.assert_prints(&printed, input);
+    }
+}
+
 #[test]
 fn generated_streams() {
     let mut met = BTreeSet::new();

@@ -26,7 +26,7 @@ fn assert_answers_at_once(program: &Program, parts: &[&[u8]]) {
         input.write_all(part).expect("a program that reads on");
         sent.extend_from_slice(part);
         let complete = &sent[..whole_envelopes(&sent)];
-        let expected = &(program.expected)(complete)[before..];
+        let expected = &program.output(complete)[before..];
         let answered = run.next_exactly(expected.len());
         let (name, length) = (program.name, sent.len());
         assert!(answered == expected, "{name}, after {length} bytes");
@@ -34,9 +34,8 @@ fn assert_answers_at_once(program: &Program, parts: &[&[u8]]) {
     }
     drop(input);
     let mut printed = run.finish();
-    printed
-        .output
-        .splice(0..0, (program.expected)(&sent)[..before].iter().copied());
+    let answered = program.output(&sent)[..before].to_vec();
+    printed.output.splice(0..0, answered);
     program.assert_prints(&printed, &sent);
 }
 
@@ -95,29 +94,24 @@ fn tidy_ends_at_a_refused_bundle() {
     drop(pipe);
 }
 
-/// Panics unless there is one line on standard error that begins so, and the status is 0.
-fn assert_says(printed: &Printed, start: &str) {
-    let error = printed.error_text();
-    assert!(error.starts_with(start), "{start:?} expected: {error:?}");
-    assert!(error.len() > start.len() + 1 && error.ends_with('\n'));
-    assert_eq!(error.lines().count(), 1, "{error:?}");
-    assert_eq!(printed.status.code(), Some(0), "{error:?}");
-}
-
 #[test]
 fn input_that_cannot_be_read() {
     for program in &PROGRAMS {
         let folder = File::open(env!("CARGO_MANIFEST_DIR")).expect("a folder");
         let folder = Run::of(program.command().stdin(folder)).finish();
+        program.assert_says(&folder, b"", &["standard input: Is a directory"], 2);
         let closed = Run::of(&mut program.command_after("", "<&-")).finish();
-        for printed in [folder, closed] {
-            assert_says(&printed, &format!("{}: read: ", program.name));
-            assert_eq!(printed.output, b"");
-        }
+        program.assert_says(&closed, b"", &["standard input: Bad file descriptor"], 2);
     }
 }
 
-/// Runs a program whose standard output takes nothing, being full or closed.
+/// Standard output that takes nothing, being full or closed, and what is said of it.
+const NO_OUTPUT: [(&str, &str); 2] = [
+    ("> /dev/full", "standard output: No space left on device"),
+    (">&-", "standard output: Bad file descriptor"),
+];
+
+/// Runs a program with such an output.
 fn without_output(program: &Program, redirection: &str, input: &[u8]) -> Printed {
     let mut command = program.command_after("", redirection);
     Run::of(command.stdin(Stdio::piped())).given(input)
@@ -127,14 +121,14 @@ fn without_output(program: &Program, redirection: &str, input: &[u8]) -> Printed
 fn output_that_cannot_be_written() {
     let message = envelope(b"\x62\xC1d\x25\xC1m\x23");
     for program in &PROGRAMS {
-        for redirection in ["> /dev/full", ">&-"] {
+        for (redirection, text) in NO_OUTPUT {
             for input in [message.clone(), message.repeat(50_000)] {
                 let printed = without_output(program, redirection, &input);
-                assert_says(&printed, &format!("{}: write: ", program.name));
+                program.assert_says(&printed, b"", &[text], 2);
             }
             // What prints nothing has no error.
             let printed = without_output(program, redirection, b"");
-            assert_eq!(printed.error_text(), "");
+            program.assert_prints(&printed, b"");
         }
     }
 }
@@ -184,6 +178,7 @@ fn assert_streams(
         }
         let printed = run.finish();
         assert_eq!(printed.error_text(), "", "after {place} bytes");
+        assert_eq!(printed.status.code(), Some(0), "after {place} bytes");
         assert_eq!(expected.next(), None, "ends after {place} bytes");
     });
 }

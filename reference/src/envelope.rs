@@ -15,6 +15,17 @@ pub fn open(bytes: &[u8]) -> Result<&[u8], Error> {
     Ok(&bytes[3..2 + length])
 }
 
+/// Whether bytes of the envelope that these begin with are missing.
+pub fn is_cut(bytes: &[u8]) -> bool {
+    match bytes {
+        [high, low, ..] => {
+            let length = usize::from(*high) * 256 + usize::from(*low);
+            (1..=1 + MAX_BYTES).contains(&length) && bytes.len() < 2 + length
+        }
+        _ => true,
+    }
+}
+
 /// Puts a bundle, unread, into an envelope. An error changes no byte of the output.
 pub fn close(bundle: &[u8], out: &mut [u8]) -> Result<usize, Error> {
     fail_if(bundle.len() > MAX_BYTES, 1, 0)?;

@@ -4,6 +4,7 @@
 //! no code with what it is compared with.
 
 mod canonical;
+pub mod command_line;
 mod envelope;
 mod error;
 pub mod generate;
@@ -23,6 +24,6 @@ pub use error::{Error, JoinError};
 pub use item::Row;
 pub use joining::join;
 pub use limits::{MAX_BYTES, MAX_ENTRIES, MAX_OPEN, MAX_ROWS};
-pub use programs::{listing, tidy};
+pub use programs::{listing, tidy, Input, Printed, Program, Run};
 pub use reading::{check, read, Counts, Mode};
 pub use writing::write;

@@ -1,9 +1,9 @@
-//! Prints the rows of each bundle in the envelopes on standard input.
+//! Prints the rows of each bundle in the envelopes of its files or of standard input.
 
-use std::io::{self, Read, Write};
+use std::process::ExitCode;
 
-fn main() -> io::Result<()> {
-    let mut input = Vec::new();
-    io::stdin().read_to_end(&mut input)?;
-    io::stdout().write_all(&reference::listing(&input))
+use reference::{command_line, Program};
+
+fn main() -> ExitCode {
+    command_line::main(Program::Listing)
 }

@@ -1,9 +1,9 @@
-//! Copies envelopes from standard input to output with each bundle canonical.
+//! Copies the envelopes of its files or of standard input with each bundle canonical.
 
-use std::io::{self, Read, Write};
+use std::process::ExitCode;
 
-fn main() -> io::Result<()> {
-    let mut input = Vec::new();
-    io::stdin().read_to_end(&mut input)?;
-    io::stdout().write_all(&reference::tidy(&input))
+use reference::{command_line, Program};
+
+fn main() -> ExitCode {
+    command_line::main(Program::Tidy)
 }
