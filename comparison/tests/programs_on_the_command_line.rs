@@ -1,9 +1,7 @@
 //! The programs' arguments, what they say of files, and that the status is 2 where something fails.
 
 use std::ffi::OsStr;
-use std::fs::{self, File, Permissions};
 use std::os::unix::ffi::OsStrExt;
-use std::os::unix::fs::PermissionsExt;
 use std::process::Stdio;
 
 use comparison::folder::Folder;
@@ -120,17 +118,6 @@ fn files_that_cannot_be_read() {
         folder.assert_run(&[name, "refused", "missing"], b"", &[said], 2);
         folder.assert_run(&["good", name, "refused"], &good(), &[said], 2);
         folder.assert_run(&["good", "good", name], &good().repeat(2), &[said], 2);
-    }
-}
-
-/// Root may read such a file.
-#[test]
-fn file_without_permission() {
-    let folder = folder("file_without_permission");
-    let path = folder.path("good");
-    fs::set_permissions(&path, Permissions::from_mode(0o000)).expect("a file of our own");
-    if File::open(&path).is_err() {
-        folder.assert_run(&["good"], b"", &["good: Permission denied"], 2);
     }
 }
 
