@@ -5,6 +5,7 @@ use native.Mathlib.Omega.{arith}
 use mathlib.Core.List.{List, [], _∷_, _++_}
 use lib.ListN.{length, drop, getD, length-append, length-drop, List·getD-append}
 use lib.Seq.{take-append-le, drop-append-le}
+use Rattle.format.specs.declared.error.Error.the-variants.{InvalidEnvelope}
 use Rattle.format.specs.Limits.{max-bytes}
 use Rattle.format.specs.Answer.{fail, good}
 use Rattle.format.specs.Envelope.{max-envelope, opening, overhead, version}
@@ -34,7 +35,7 @@ module _ (bs : List ℕ) where
   missing-rest l m = pick-no _ _ (ltb-no l) ∙ pick-no _ _ (ltb-no m)
 
   -- Fewer bytes came than are missing.
-  cut-short : (more : List ℕ) → length more < missingFrom bs → opening (bs ++ more) ≡ fail 12 0
+  cut-short : (more : List ℕ) → length more < missingFrom bs → opening (bs ++ more) ≡ fail InvalidEnvelope 0
   cut-short more f =
       let a = length-append bs more in
       let k = length (bs ++ more) in

@@ -3,10 +3,9 @@ mod closing;
 mod opening;
 
 pub use closing::close;
-pub use opening::Outcome;
+pub use opening::bundle_len;
 pub use opening::missing;
 pub use opening::open;
-pub use opening::open_error;
 
 pub const VERSION: u8 = 1;
 

@@ -1,23 +1,14 @@
-// Opening an envelope: the bundle as a part of the bytes, what is wrong with them, and how many are missing.
+// Opening an envelope: the bundle as a part of the bytes, or why there is none, and how many bytes are missing.
 ghost use mathlib.Core.Path.{_≡_};
 ghost use Prim.Native.Nat.{_≤_, _<_};
 ghost use lib.ListN.{length};
+ghost use Rattle.format.specs.Answer.{counted};
 ghost use Rattle.format.specs.Envelope.{opening};
-ghost use Rattle.envelope.specs.Answers.{Judges, bundleIn, lengthField, missingFrom, outcomeOf};
+ghost use Rattle.format.specs.Written.{answerOf};
+ghost use Rattle.envelope.specs.Answers.{bundleIn, lengthField, missingFrom};
 use format::Bundle;
 use format::Error;
-
-// The error's number and its place; both are 0 where nothing is wrong.
-pub struct Outcome {
-    pub error: u8,
-    pub place: usize,
-}
-
-// The bundle's length, or the error.
-enum Opened {
-    Good(usize),
-    Failed(Error),
-}
+use format::Written;
 
 fn wide(b: u8) -> usize
     ensures { λ r. ⌜ (r ≡ b) × (r < 256) ⌝ }
@@ -33,48 +24,36 @@ fn length_field(bytes: &[u8]) -> usize
     wide(bytes[0]) * 256 + wide(bytes[1])
 }
 
-fn judge(bytes: &[u8]) -> Opened
-    ensures { λ r. ⌜ Judges (now (bytes .entry)) r ⌝ }
+// The length of the bundle in an envelope, or why it does not open.
+pub fn bundle_len(bytes: &[u8]) -> Written
+    ensures { λ r. ⌜ answerOf r ≡ counted (opening (now (bytes .entry))) ⌝ }
 {
     if bytes.len() < 2 {
-        return Opened::Failed(Error::InvalidEnvelope);
+        return Written::fail(Error::InvalidEnvelope, 0);
     }
     let n = length_field(bytes);
     if n == 0 {
-        return Opened::Failed(Error::InvalidEnvelope);
+        return Written::fail(Error::InvalidEnvelope, 0);
     }
     if Bundle::MAX_BYTES < n - 1 {
-        return Opened::Failed(Error::InvalidEnvelope);
+        return Written::fail(Error::InvalidEnvelope, 0);
     }
     if bytes.len() - 2 < n {
-        return Opened::Failed(Error::InvalidEnvelope);
+        return Written::fail(Error::InvalidEnvelope, 0);
     }
     if bytes[2] != crate::VERSION {
-        return Opened::Failed(Error::UnsupportedVersion);
+        return Written::fail(Error::UnsupportedVersion, 0);
     }
-    Opened::Good(n - 1)
+    Written::Done(n - 1)
 }
 
-// The bundle in an envelope, as that part of the bytes; on an error an empty part. Bytes after it are not looked at.
+// The bundle in an envelope, as that part of the bytes; an empty part where it does not open. Bytes after it are not looked at.
 pub fn open(bytes: &[u8]) -> &[u8]
     ensures { λ r. ⌜ now r ≡ bundleIn (opening (now (bytes .entry))) ⌝ }
 {
-    match judge(bytes) {
-        Opened::Good(n) => &bytes[3..3 + n],
-        Opened::Failed(_) => &bytes[0..0],
-    }
-}
-
-// What is wrong with an envelope.
-pub fn open_error(bytes: &[u8]) -> Outcome
-    ensures { λ r. ⌜ r ≡ outcomeOf (opening (now (bytes .entry))) ⌝ }
-{
-    match judge(bytes) {
-        Opened::Good(_) => Outcome { error: 0, place: 0 },
-        Opened::Failed(e) => Outcome {
-            error: e.code(),
-            place: 0,
-        },
+    match bundle_len(bytes) {
+        Written::Done(n) => &bytes[crate::OVERHEAD..crate::OVERHEAD + n],
+        Written::Failed(_) => &bytes[0..0],
     }
 }
 

@@ -10,6 +10,7 @@ use lib.Dec.{leb, ltb, eqb}
 use lib.ListN.{length, take, drop, length-append, length-drop}
 use lib.Seq.{drop-drop}
 use Rattle.format.specs.declared.header.Header.{Header}
+use Rattle.format.specs.declared.error.Error.the-variants.{InvalidUtf8, NotCanonical, TooManyEntries, Truncated, UnexpectedKey}
 use Rattle.format.specs.Choice.{pick, _&&_}
 use Rattle.format.specs.Limits.{max-entries}
 use Rattle.format.specs.Answer.{fail}
@@ -62,7 +63,7 @@ module _ {s es : List ℕ} {at names keyed next : ℕ} {h : Header} {o : Options
       let e : a .at + h .size ≡ next = omega (arith, cs .stands .offset, cs .size) in
       to-later o a h (drop at s) (content k) ef (cs .short) x (rw (rest-is, e) (ap (λ (n : ℕ). some (partOf s k next n)) (sym ep))) ∙ rw rest-is
 
-  pub content-again : eqb keyed 1 && isKey (x .item) ≡ true → headed o a (some h) (drop at s) ≡ fail 5 (a .at)
+  pub content-again : eqb keyed 1 && isKey (x .item) ≡ true → headed o a (some h) (drop at s) ≡ fail UnexpectedKey (a .at)
   content-again e = at-later ∙ pick-yes _ _ (rw (cs .stands .key) e)
 
   module _ (key : eqb keyed 1 && isKey (x .item) ≡ false) where
@@ -72,7 +73,7 @@ module _ {s es : List ℕ} {at names keyed next : ℕ} {h : Header} {o : Options
     not-box : tooDeep (a .place) (x .item) ≡ false
     not-box = and-no-left _ (not-container (x .item) plain)
 
-    pub content-cut : length s - next < p → headed o a (some h) (drop at s) ≡ fail 2 (a .at)
+    pub content-cut : length s - next < p → headed o a (some h) (drop at s) ≡ fail Truncated (a .at)
     unfolding isContent _&&_
     content-cut l =
         let g : length (drop next s) < h .payload = omega (arith, length-drop next s) in
@@ -82,14 +83,14 @@ module _ {s es : List ℕ} {at names keyed next : ℕ} {h : Header} {o : Options
       uncut : ltb (length (drop next s)) (h .payload) ≡ false
       uncut = let g : h .payload ≤ length (drop next s) = omega (arith, length-drop next s) in ltb-no g
 
-      pub content-text : isText (x .item) && not (utf8 (x .item .content)) ≡ true → headed o a (some h) (drop at s) ≡ fail 3 (a .at)
+      pub content-text : isText (x .item) && not (utf8 (x .item .content)) ≡ true → headed o a (some h) (drop at s) ≡ fail InvalidUtf8 (a .at)
       unfolding isContent _&&_
       content-text e = at-later ∙ pick-no _ _ not-again ∙ pick-no _ _ not-box ∙ pick-no _ _ uncut ∙ pick-yes _ _ e
 
       module _ (text : isText (x .item) && not (utf8 (x .item .content)) ≡ false) where
         at-rest : headed o a (some h) (drop at s)
-            ≡ pick (o .strict && (isContent (content k) && isName (x .item)) && isSome (index (x .item) (itemsOf (a .entries)))) (fail 11 (a .at))
-            (pick ((isContent (content k) && isName (x .item)) && leb max-entries (length (a .entries))) (fail 8 (a .at))
+            ≡ pick (o .strict && (isContent (content k) && isName (x .item)) && isSome (index (x .item) (itemsOf (a .entries)))) (fail NotCanonical (a .at))
+            (pick ((isContent (content k) && isName (x .item)) && leb max-entries (length (a .entries))) (fail TooManyEntries (a .at))
             (rowed o a (after a h (content k) x)))
         unfolding isContent _&&_
         at-rest = at-later ∙ pick-no _ _ not-again ∙ pick-no _ _ not-box ∙ pick-no _ _ uncut ∙ pick-no _ _ text
@@ -124,19 +125,19 @@ module _ {s es : List ℕ} {at names keyed next : ℕ} {h : Header} {o : Options
           a-name : isName (x .item) ≡ true
           a-name = is-name (x .item) high
 
-          pub name-known : o .strict && isKnown s es names x ≡ true → headed o a (some h) (drop at s) ≡ fail 11 (a .at)
+          pub name-known : o .strict && isKnown s es names x ≡ true → headed o a (some h) (drop at s) ≡ fail NotCanonical (a .at)
           unfolding isContent _&&_
           name-known e = at-rest ∙ pick-yes _ _ (rw (a-name, cs .stands .entries) e)
 
           module _ (fresh : o .strict && isKnown s es names x ≡ false) (size : length es ≡ 256) (few : names ≤ 256) where
-            at-entry : headed o a (some h) (drop at s) ≡ pick ((isContent (content k) && isName (x .item)) && leb max-entries (length (a .entries))) (fail 8 (a .at)) (rowed o a (after a h (content k) x))
+            at-entry : headed o a (some h) (drop at s) ≡ pick ((isContent (content k) && isName (x .item)) && leb max-entries (length (a .entries))) (fail TooManyEntries (a .at)) (rowed o a (after a h (content k) x))
             unfolding isContent _&&_
             at-entry = at-rest ∙ pick-no _ _ (rw (a-name, cs .stands .entries) fresh)
 
             entries-length : length (a .entries) ≡ names
             entries-length = rw (cs .stands .entries) (length-entries s es names size few)
 
-            pub name-full : max-entries ≤ names → headed o a (some h) (drop at s) ≡ fail 8 (a .at)
+            pub name-full : max-entries ≤ names → headed o a (some h) (drop at s) ≡ fail TooManyEntries (a .at)
             unfolding isContent _&&_
             name-full l = at-entry ∙ pick-yes _ _ (rw (a-name, entries-length) (leb-yes l))
 

@@ -10,7 +10,7 @@ use lib.Dec.{leb, ltb, eqb}
 use lib.ListN.{length, drop, getD, length-append}
 use Rattle.format.specs.declared.header.Header.{Header}
 use Rattle.format.specs.declared.header.FieldCount.{FieldCount}
-use Rattle.format.specs.declared.error.Error.the-variants.{TooDeep, UnexpectedKey, UndefinedReference}
+use Rattle.format.specs.declared.error.Error.the-variants.{TooDeep, UndefinedReference, UnexpectedKey}
 use Rattle.format.specs.Choice.{pick, _&&_}
 use Rattle.format.specs.Limits.{max-depth}
 use Rattle.format.specs.Answer.{fail}
@@ -55,10 +55,10 @@ module _ {s es : List ℕ} {at names keyed next : ℕ} {h : Header} {o : Options
   at-later : headed o a (some h) bs ≡ later o a h f (drop (h .size) bs) (x .item) (after a h f x)
   at-later = to-later o a h bs f ef (cs .short) x ex
 
-  pub flat-again : keyAfterKey (a .place) (x .item) ≡ true → headed o a (some h) bs ≡ fail 5 (a .at)
+  pub flat-again : keyAfterKey (a .place) (x .item) ≡ true → headed o a (some h) bs ≡ fail UnexpectedKey (a .at)
   flat-again e = at-later ∙ pick-yes _ _ e
 
-  pub flat-deep : keyAfterKey (a .place) (x .item) ≡ false → tooDeep (a .place) (x .item) ≡ true → headed o a (some h) bs ≡ fail 6 (a .at)
+  pub flat-deep : keyAfterKey (a .place) (x .item) ≡ false → tooDeep (a .place) (x .item) ≡ true → headed o a (some h) bs ≡ fail TooDeep (a .at)
   flat-deep k e = at-later ∙ pick-no _ _ k ∙ pick-yes _ _ e
 
   pub flat-goes : keyAfterKey (a .place) (x .item) ≡ false → tooDeep (a .place) (x .item) ≡ false → (b : ℕ) (p : Place) → moved (a .place) (x .item) ≡ p → p .keyed ≡ eqb b 1

@@ -8,9 +8,11 @@ use Prim.Native.Nat.{ℕ, _+_, _≤_, _<_}
 use lib.Dec.{leb, ltb}
 use lib.ListN.{length, drop}
 use Rattle.format.specs.declared.header.Header.{Header}
+use Rattle.format.specs.declared.error.Error.the-variants.{InvalidUtf8, NotCanonical, TooDeep, TooManyEntries, Truncated, UndefinedReference, UnexpectedKey}
 use Rattle.format.specs.Choice.{pick, _&&_, _||_}
 use Rattle.format.specs.Limits.{max-entries}
-use Rattle.format.specs.Answer.{Failure, Rule, rule, first, Answer, failed, good, fail, unless}
+use Rattle.format.specs.declared.failure.Failure.{Failure}
+use Rattle.format.specs.Answer.{Rule, rule, first, Answer, failed, good, fail, unless}
 use Rattle.format.specs.Header.{isLong, isNegativeAlias, headerOf}
 use Rattle.format.specs.Utf8.{utf8}
 use Rattle.format.specs.Item.{Item, isKey, isContainer, isName, isText}
@@ -37,12 +39,12 @@ ladder-is (r ∷ rs) b = both (r .applies) (ladder-is rs b)
 
 abbrev pub later : Options → State → Header → Form → List ℕ → Item → State → Answer State
 later o s h f bs x b =
-    pick (keyAfterKey (s .place) x) (fail 5 (s .at))
-    (pick (tooDeep (s .place) x) (fail 6 (s .at))
-    (pick (isContent f && ltb (length bs) (h .payload)) (fail 2 (s .at))
-    (pick (isContent f && isText x && not (utf8 (x .content))) (fail 3 (s .at))
-    (pick (o .strict && (isContent f && isName x) && isSome (index x (itemsOf (s .entries)))) (fail 11 (s .at))
-    (pick ((isContent f && isName x) && leb max-entries (length (s .entries))) (fail 8 (s .at))
+    pick (keyAfterKey (s .place) x) (fail UnexpectedKey (s .at))
+    (pick (tooDeep (s .place) x) (fail TooDeep (s .at))
+    (pick (isContent f && ltb (length bs) (h .payload)) (fail Truncated (s .at))
+    (pick (isContent f && isText x && not (utf8 (x .content))) (fail InvalidUtf8 (s .at))
+    (pick (o .strict && (isContent f && isName x) && isSome (index x (itemsOf (s .entries)))) (fail NotCanonical (s .at))
+    (pick ((isContent f && isName x) && leb max-entries (length (s .entries))) (fail TooManyEntries (s .at))
     (rowed o s b))))))
 
 module _ (o : Options) (a : State) (h : Header) (bs : List ℕ) (f : Form) (ef : formOf h ≡ f) (short : o .strict && (isLong h || isNegativeAlias h) ≡ false) where
@@ -51,17 +53,17 @@ module _ (o : Options) (a : State) (h : Header) (bs : List ℕ) (f : Form) (ef :
   unfolding headed itemRules isMissing orNull ladder rule fail rowed
   to-later x e = rw (ef, e) (ladder-is _ _ ∙ pick-no _ _ short ∙ pick-no _ _ refl)
 
-  pub missing : itemOf f (h .payload) (a .at + h .size) (drop (h .size) bs) (a .entries) ≡ none → headed o a (some h) bs ≡ fail 4 (a .at)
+  pub missing : itemOf f (h .payload) (a .at + h .size) (drop (h .size) bs) (a .entries) ≡ none → headed o a (some h) bs ≡ fail UndefinedReference (a .at)
   unfolding headed itemRules isMissing orNull ladder rule fail
   missing e = rw (ef, e) (ladder-is _ _ ∙ pick-no _ _ short ∙ pick-yes _ _ refl)
 
-pub waste : (o : Options) (a : State) (h : Header) (bs : List ℕ) {strict : Bool} → o .strict ≡ strict → strict && (isLong h || isNegativeAlias h) ≡ true → headed o a (some h) bs ≡ fail 11 (a .at)
+pub waste : (o : Options) (a : State) (h : Header) (bs : List ℕ) {strict : Bool} → o .strict ≡ strict → strict && (isLong h || isNegativeAlias h) ≡ true → headed o a (some h) bs ≡ fail NotCanonical (a .at)
 unfolding headed itemRules ladder rule fail
 waste o a h bs so e = ladder-is _ _ ∙ pick-yes _ _ (ap (λ (b : Bool). b && (isLong h || isNegativeAlias h)) so ∙ e)
 
 -- ---- an item by its header
 
-pub cut : (o : Options) (a : State) (bs : List ℕ) → none ≡ headerOf bs → item o a bs ≡ fail 2 (a .at)
+pub cut : (o : Options) (a : State) (bs : List ℕ) → none ≡ headerOf bs → item o a bs ≡ fail Truncated (a .at)
 unfolding item headed
 cut o a bs e = rw (← e)
 

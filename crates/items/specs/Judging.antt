@@ -7,10 +7,9 @@ use Prim.Native.Nat.{ℕ, _+_, _-_, _≤_, _<_, min}
 use lib.Dec.{leb, eqb}
 use lib.ListN.{length, take, drop}
 use Rattle.format.specs.declared.header.Header.{Header}
-use Rattle.format.specs.declared.error.Error.the-variants.{NotCanonical, TooManyEntries}
+use Rattle.format.specs.declared.error.Error.the-variants.{NotCanonical, TooManyEntries, TooManyRows}
 use Rattle.format.specs.Choice.{pick, _&&_, _||_}
 use Rattle.format.specs.Limits.{max-rows}
-use Rattle.format.specs.Error.{codeOf}
 use Rattle.format.specs.Answer.{Answer, good, fail}
 use Rattle.format.specs.Header.{isLong, isNegativeAlias}
 use Rattle.format.specs.Names.{index, isSome}
@@ -61,7 +60,7 @@ Moves strict s es links at names depth (out.Container n u) = (0 < depth) × (0 <
 
 -- The last rule: there is a row for the item.
 unfoldable pub rowed : Options → State → State → Answer State
-rowed o a next = pick (leb (min max-rows (o .capacity)) (length (a .found))) (fail 7 (a .at)) (good next)
+rowed o a next = pick (leb (min max-rows (o .capacity)) (length (a .found))) (fail TooManyRows (a .at)) (good next)
 
 abbrev pub spot : List ℕ → Bool → ℕ → Place
 spot k b f = record { opened = k; keyed = b; fields = f }
@@ -75,7 +74,7 @@ pub record Goes (o : Options) (s es : List ℕ) (at names keyed : ℕ) (p : Plac
   pub row : length (next .found) ≡ length (a .found) + 1
 
 abbrev pub Judged : Options → List ℕ → List ℕ → ℕ → State → Answer State → Out → Type 0
-Judged o s es names a r (out.Bad e) = r ≡ fail (codeOf e) (a .at)
+Judged o s es names a r (out.Bad e) = r ≡ fail e (a .at)
 Judged o s es names a r (out.Value u) = Goes o s es u names 0 (ended (a .place .opened) (a .place .fields)) a r
 Judged o s es names a r (out.Key u) = Goes o s es u names 1 (spot (a .place .opened) true (a .place .fields)) a r
 Judged o s es names a r (out.NewSymbol u) = Goes o s es u (names + 1) 0 (ended (a .place .opened) (a .place .fields)) a r

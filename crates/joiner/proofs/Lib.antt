@@ -1,4 +1,3 @@
 -- Laws of the joiner.
 pub mod MergeLaws
 pub mod JoinLaws
-pub mod Laws

@@ -6,6 +6,7 @@ use Prim.Native.Nat.{ℕ, _+_, _≤_, _<_, min, zero-le}
 use native.Mathlib.Omega.{arith}
 use lib.Dec.{ltb}
 use lib.ListN.{length, replicate, length-append}
+use Rattle.format.specs.declared.error.Error.{Error}
 use Rattle.format.specs.declared.error.Error.the-variants.{OutputTooLong, TooManyEntries, TooManyRows}
 use Rattle.format.specs.Limits.{max-bytes}
 use Rattle.format.specs.Answer.{counted, fail, good, onSide, stored, then}
@@ -23,9 +24,11 @@ use Rattle.symbols.proofs.EntryLaws.{side-first, side-second}
 use Rattle.symbols.proofs.ChainLaws.{length-names}
 use Rattle.encoder.proofs.MeasureLaws.{measured-none}
 use Rattle.rewriter.specs.declared.measuring.Tally.{Tally}
-use Rattle.joiner.specs.declared.merging.Joined.the-variants.{Done, Failed}
+use Rattle.format.specs.declared.written.Written.{Written}
+use Rattle.format.specs.declared.written.Written.the-variants.{Done}
+use Rattle.format.specs.Written.{answerOf}
 use Rattle.rewriter.specs.declared.putting.Spot.{Spot}
-use Rattle.joiner.specs.Promises.{Joins}
+use Rattle.format.specs.Demand3.{Joins}
 use Rattle.rewriter.specs.Measuring.{Begun, Measures, Tallied, all, over}
 use Rattle.rewriter.specs.Putting as putting
 use Rattle.rewriter.specs.Putting.{Planning}
@@ -51,9 +54,12 @@ module _ {a b : List ℕ} {rows : ℕ} (p : Both a b rows) where
   both-rows : length (xs ++ ys) ≡ rows
   both-rows = length-append xs ys ∙ omega (arith, length-items (p .u .found), length-items (p .v .found), p .count)
 
-  pub rows-over : (old : List ℕ) → 1024 < rows → Joins a b old (Failed TooManyRows 0 0) old
+  refused : (old : List ℕ) {r : Written} (k : Error) → answerOf r ≡ fail k 0 → together (length old) (xs ++ ys) ≡ fail k 0 → Joins lenient a b old r old
   unfolding counted stored then fail
-  rows-over old l = let e = joined (length old) ∙ together-rows (length old) (xs ++ ys) (rw both-rows l) in record { answer = rw e; buffer = rw e }
+  refused old k q t = let e = joined (length old) ∙ t in record { answer = q ∙ rw e; buffer = rw e }
+
+  pub rows-over : (old : List ℕ) {r : Written} → answerOf r ≡ fail TooManyRows 0 → 1024 < rows → Joins lenient a b old r old
+  rows-over old q l = refused old TooManyRows q (together-rows (length old) (xs ++ ys) (rw both-rows l))
 
   -- ---- measured
 
@@ -91,9 +97,8 @@ module _ {a b : List ℕ} {rows : ℕ} (p : Both a b rows) where
           go (all k) = absurd (omega (arith, k .measured .table .table .few))
           go (over n h) = h
 
-      pub names-over : 256 < t .names → Joins a b old (Failed TooManyEntries 0 0) old
-      unfolding counted stored then fail
-      names-over g = let e = joined (length old) ∙ together-names (length old) (xs ++ ys) few (many g) in record { answer = rw e; buffer = rw e }
+      pub names-over : {r : Written} → answerOf r ≡ fail TooManyEntries 0 → 256 < t .names → Joins lenient a b old r old
+      names-over q g = refused old TooManyEntries q (together-names (length old) (xs ++ ys) few (many g))
 
       module _ (g : t .names ≤ 256) where
         tallied : Tallied a b (m .entries) (m .links) plan (xs ++ ys) t
@@ -106,12 +111,10 @@ module _ {a b : List ℕ} {rows : ℕ} (p : Both a b rows) where
         names : length (namesFrom [] (xs ++ ys)) ≤ 256
         names = omega (arith, ap length (tallied .measured .names), length-names (tallied .measured .table .table))
 
-        pub size-over : ltb (min max-bytes (length old)) (t .size) ≡ true → Joins a b old (Failed OutputTooLong 0 0) old
-        unfolding counted stored then fail
-        size-over o =
-            let c = leb-true _ _ o in
-            let e = joined (length old) ∙ together-size (length old) (xs ++ ys) few names (rw (← tallied .measured .length-is) c) in
-            record { answer = rw e; buffer = rw e }
+        pub size-over : {r : Written} → answerOf r ≡ fail OutputTooLong 0 → ltb (min max-bytes (length old)) (t .size) ≡ true → Joins lenient a b old r old
+        size-over q o =
+            refused old OutputTooLong q
+            (together-size (length old) (xs ++ ys) few names (rw (← tallied .measured .length-is) (leb-true _ _ o)))
 
         module _ (o : ltb (min max-bytes (length old)) (t .size) ≡ false) where
           fits : length (canonical (xs ++ ys)) ≤ min max-bytes (length old)
@@ -120,7 +123,7 @@ module _ {a b : List ℕ} {rows : ℕ} (p : Both a b rows) where
           pub planned : Planned p plan (length old)
           planned = record { size = tallied .measured .plan-size; planned = tallied .measured .planned; few = names; fits = omega (arith, fits) }
 
-          pub written : {new : List ℕ} {w : Spot} → Put p old new w → Joins a b old (Done (t .size)) new
+          pub written : {new : List ℕ} {w : Spot} → Put p old new w → Joins lenient a b old (Done (t .size)) new
           unfolding counted stored then
           written q =
               let e = joined (length old) ∙ together-fits (length old) (xs ++ ys) (record { rows = few; names = names; size = fits }) in

@@ -4,4 +4,3 @@ mod merging;
 
 pub use joining::canonicalize;
 pub use joining::join;
-pub use merging::Joined;

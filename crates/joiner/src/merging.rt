@@ -1,26 +1,20 @@
 // Two bundles that read, merged: measured first, then written, so that an error changes no byte.
 ghost use mathlib.Core.Path.{_≡_};
-ghost use Prim.Native.Nat.{ℕ, _≤_, min};
-ghost use lib.Dec.{ltb};
+ghost use Prim.Native.Nat.{ℕ, _≤_};
 ghost use lib.ListN.{length};
-ghost use Rattle.format.specs.Limits.{max-bytes};
-ghost use Rattle.joiner.specs.Promises.{Joins};
+ghost use Rattle.format.specs.Demand3.{Joins};
+ghost use Rattle.format.specs.Reading.{lenient};
 ghost use Rattle.joiner.specs.Merging.{Both, Fitting, Measured, Ready, Planned, Put, begun, top};
-use format::Bundle;
+use encoder::fitting::is_over;
 use format::Error;
 use format::Row;
 use format::SymbolTable;
+use format::Written;
 use rewriter::measuring::Tally;
 use rewriter::measuring::measure;
 use rewriter::putting::Spot;
 use rewriter::putting::put;
 use symbols::lookup::Links;
-
-// The number of bytes written, or the error with its place and side: 1 or 2 for the bundle that does not read, else 0.
-pub enum Joined {
-    Done(usize),
-    Failed(Error, usize, u8),
-}
 
 // Before the first item.
 fn begin() -> Tally
@@ -43,16 +37,6 @@ fn start() -> Spot
         row: 0,
         out: 0,
     }
-}
-
-// Is a result too long for a bundle or for the buffer?
-fn is_over(size: usize, capacity: usize) -> bool
-    ensures { λ r. ⌜ r ≡ ltb (min max-bytes capacity) size ⌝ }
-{
-    if Bundle::MAX_BYTES < size {
-        return true;
-    }
-    capacity < size
 }
 
 // Measures both bundles, and plans how their names are written.
@@ -78,21 +62,21 @@ fn put_both(out: &mut [u8], first: &[u8], second: &[u8], plan: &[u16; Row::MAX_C
 }
 
 // Merges two bundles that have so many rows together.
-pub fn merge<'a>(first: &'a [u8], second: &'a [u8], out: &mut [u8], rows: usize) -> Joined
+pub fn merge<'a>(first: &'a [u8], second: &'a [u8], out: &mut [u8], rows: usize) -> Written
     requires { ⌜ Both (now first) (now second) rows ⌝ }
-    ensures { λ r. ⌜ Joins (now (first .entry)) (now (second .entry)) (now (out .entry)) r (now (out .exit)) ⌝ }
+    ensures { λ r. ⌜ Joins lenient (now (first .entry)) (now (second .entry)) (now (out .entry)) r (now (out .exit)) ⌝ }
 {
     if Row::MAX_COUNT < rows {
-        return Joined::Failed(Error::TooManyRows, 0, 0);
+        return Written::fail(Error::TooManyRows, 0);
     }
     let mut plan = [0u16; Row::MAX_COUNT];
     let t = measure_both(first, second, &mut plan);
     if SymbolTable::MAX_ENTRIES < t.names {
-        return Joined::Failed(Error::TooManyEntries, 0, 0);
+        return Written::fail(Error::TooManyEntries, 0);
     }
     if is_over(t.size, out.len()) {
-        return Joined::Failed(Error::OutputTooLong, 0, 0);
+        return Written::fail(Error::OutputTooLong, 0);
     }
     put_both(out, first, second, &plan);
-    Joined::Done(t.size)
+    Written::Done(t.size)
 }

@@ -9,7 +9,10 @@ use lib.Seq.{drop-cons}
 use Rattle.format.specs.declared.bundle.Bundle.{Bundle}
 use Rattle.format.specs.declared.row.Row.{Row}
 use Rattle.format.specs.Limits.{max-rows}
-use Rattle.format.specs.Answer.{Answer, errorIn, failed, good, placeIn, stored, then}
+use Rattle.format.specs.declared.outcome.Outcome.{Outcome}
+use Rattle.format.specs.declared.outcome.Outcome.the-variants.{Good}
+use Rattle.format.specs.Error.{codeOf}
+use Rattle.format.specs.Answer.{Answer, failed, good, outcomeOf, stored, then}
 use Rattle.format.specs.Reading.{State, counts, countsOf, lenient, reading}
 use Rattle.format.specs.Rows.{rowOf, rows}
 use Rattle.format.proofs.Tests.{ltb-no, ltb-yes, pick-no, pick-yes}
@@ -34,7 +37,7 @@ length-line k word n other m =
 length-first : (k : ℕ) (r : Answer Bundle) → length (firstLine k r) ≤ 81
 unfolding ascii firstLine
 length-first k (good b) = length-line k rows-word (b .rows) names-word (b .entries)
-length-first k (failed r) = length-line k refused-word (r .code) at-word (r .place)
+length-first k (failed r) = length-line k refused-word (codeOf (r .error)) at-word (r .place)
 
 length-row : (i : ℕ) (r : Row) → length (rowLine i r) ≤ 84
 unfolding rowLine
@@ -126,23 +129,23 @@ module _ (out : List ℕ) (l : length out < max-text) where
   unfolding within
   put-none bs = let e = pick-yes [] bs (ltb-yes l) in rw e (refl, refl)
 
-  told-none : (n : ℕ) → 0 ≡ toldWithin (length out) n
+  told-none : (o : Outcome) → Good ≡ toldWithin (length out) o
   unfolding toldWithin
-  told-none n = sym (pick-yes 0 n (ltb-yes l))
+  told-none o = sym (pick-yes Good o (ltb-yes l))
 
-  pub prints-none : (k : ℕ) (bs : List ℕ) → Prints k bs out (record { written = 0; error = 0; place = 0 }) out
-  prints-none k bs = record { puts = put-none (text k bs); error = told-none (errorIn (counts lenient bs)); place = told-none (placeIn (counts lenient bs)) }
+  pub prints-none : (k : ℕ) (bs : List ℕ) → Prints k bs out (record { written = 0; outcome = Good }) out
+  prints-none k bs = record { puts = put-none (text k bs); outcome = told-none (outcomeOf (counts lenient bs)) }
 
 module _ (out : List ℕ) (g : max-text ≤ length out) where
   pub put-all : {l : List ℕ} {n : ℕ} (bs : List ℕ) → Puts bs n out l → Puts (within (length out) bs) n out l
   unfolding within
   put-all {l} {n} bs q = let e = pick-no [] bs (ltb-no g) in subst⁻¹ (λ (w : List ℕ). Puts w n out l) e q
 
-  told-all : (x : ℕ) → x ≡ toldWithin (length out) x
+  told-all : (o : Outcome) → o ≡ toldWithin (length out) o
   unfolding toldWithin
-  told-all x = sym (pick-no 0 x (ltb-no g))
+  told-all o = sym (pick-no Good o (ltb-no g))
 
   pub prints-all : {l : List ℕ} {n : ℕ} (k : ℕ) (bs : List ℕ) (t : Table) → Tabled bs t → Puts (text k bs) n out l
       → Prints k bs out (printedOf n (answerOf (t .answer))) l
   prints-all k bs t p q =
-      record { puts = put-all (text k bs) q; error = ap errorIn (p .answer) ∙ told-all (errorIn (counts lenient bs)); place = ap placeIn (p .answer) ∙ told-all (placeIn (counts lenient bs)) }
+      record { puts = put-all (text k bs) q; outcome = ap outcomeOf (p .answer) ∙ told-all (outcomeOf (counts lenient bs)) }

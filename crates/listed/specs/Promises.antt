@@ -6,7 +6,7 @@ use lib.ListN.{length, replicate}
 use Rattle.format.specs.declared.bundle.Bundle.{Bundle}
 use Rattle.format.specs.declared.row.Row.{Row}
 use Rattle.format.specs.Limits.{max-rows}
-use Rattle.format.specs.Answer.{Answer, errorIn, placeIn, stored}
+use Rattle.format.specs.Answer.{Answer, outcomeOf, stored}
 use Rattle.format.specs.Reading.{counts, lenient}
 use Rattle.format.specs.Rows.{rows}
 use Rattle.reader.specs.Answers.{answerOf}
@@ -25,10 +25,9 @@ pub record Tabled (bytes : List ℕ) (t : Table) : Type 0 where
 
 -- What is answered of a text of so many bytes, by what reading answered.
 abbrev pub printedOf : ℕ → Answer Bundle → Printed
-printedOf n r = record { written = n; error = errorIn r; place = placeIn r }
+printedOf n r = record { written = n; outcome = outcomeOf r }
 
 -- Of the bundle of envelope k, into a buffer that held `old`: it answers `r` and leaves `new`.
 pub record Prints (k : ℕ) (bytes old : List ℕ) (r : Printed) (new : List ℕ) : Type 0 where
   pub puts : Puts (within (length old) (text k bytes)) (r .written) old new
-  pub error : r .error ≡ toldWithin (length old) (errorIn (counts lenient bytes))
-  pub place : r .place ≡ toldWithin (length old) (placeIn (counts lenient bytes))
+  pub outcome : r .outcome ≡ toldWithin (length old) (outcomeOf (counts lenient bytes))

@@ -4,7 +4,10 @@ use mathlib.Core.List.{List, [], _∷_, flatten}
 use lib.Dec.{ltb}
 use Rattle.format.specs.declared.bundle.Bundle.{Bundle}
 use Rattle.format.specs.declared.row.Row.{Row}
+use Rattle.format.specs.declared.outcome.Outcome.{Outcome}
+use Rattle.format.specs.declared.outcome.Outcome.the-variants.{Good}
 use Rattle.format.specs.Choice.{pick}
+use Rattle.format.specs.Error.{codeOf}
 use Rattle.format.specs.Answer.{Answer, failed, good}
 use Rattle.format.specs.Reading.{counts, lenient}
 use Rattle.format.specs.Rows.{rows}
@@ -39,7 +42,7 @@ bundleLine k word n other m = flatten (labelled bundle-word k ∷ labelled word 
 -- `bundle K rows R names N`, or `bundle K refused X at P`
 unfoldable pub firstLine : ℕ → Answer Bundle → List ℕ
 firstLine k (good b) = bundleLine k rows-word (b .rows) names-word (b .entries)
-firstLine k (failed r) = bundleLine k refused-word (r .code) at-word (r .place)
+firstLine k (failed r) = bundleLine k refused-word (codeOf (r .error)) at-word (r .place)
 
 -- a row: its index, kind, number and start
 unfoldable pub rowLine : ℕ → Row → List ℕ
@@ -75,6 +78,6 @@ max-text = 86097
 unfoldable pub within : ℕ → List ℕ → List ℕ
 within capacity bs = pick (ltb capacity max-text) [] bs
 
--- So for a number that is answered: else it is 0.
-unfoldable pub toldWithin : ℕ → ℕ → ℕ
-toldWithin capacity n = pick (ltb capacity max-text) 0 n
+-- So for what became of the bundle: else nothing is told.
+unfoldable pub toldWithin : ℕ → Outcome → Outcome
+toldWithin capacity outcome = pick (ltb capacity max-text) Good outcome

@@ -46,14 +46,17 @@ pub fn put_first(k: u64, answer: Checked, out: &mut [u8]) -> usize
             b.entries as u64,
             out,
         ),
-        Checked::Failed(e, p) => put_bundle_line(
-            k,
-            b" refused ",
-            e.code() as u64,
-            b" at ",
-            p as u64,
-            out,
-        ),
+        Checked::Failed(f) => {
+            let error = f.error;
+            put_bundle_line(
+                k,
+                b" refused ",
+                error.code() as u64,
+                b" at ",
+                f.place as u64,
+                out,
+            )
+        }
     }
 }
 

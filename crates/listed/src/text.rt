@@ -9,6 +9,7 @@ use crate::line::put_envelope;
 use crate::line::put_first;
 use crate::line::put_row;
 use crate::table::Table;
+use format::Outcome;
 use reader::Checked;
 
 pub struct Text;
@@ -18,11 +19,10 @@ impl Text {
     pub const MAX_LEN: usize = 86097;
 }
 
-// How many bytes were written, and why the bundle is refused: the error's number and place, 0 and 0 where it reads.
+// How many bytes were written, and whether the bundle reads.
 pub struct Printed {
     pub written: usize,
-    pub error: u8,
-    pub place: usize,
+    pub outcome: Outcome,
 }
 
 // How many rows are printed.
@@ -31,7 +31,7 @@ fn row_count(answer: Checked) -> usize
 {
     match answer {
         Checked::Good(b) => b.rows,
-        Checked::Failed(_, _) => 0,
+        Checked::Failed(_) => 0,
     }
 }
 
@@ -42,26 +42,24 @@ fn answered(answer: Checked, written: usize) -> Printed
     match answer {
         Checked::Good(_) => Printed {
             written,
-            error: 0,
-            place: 0,
+            outcome: Outcome::Good,
         },
-        Checked::Failed(e, p) => Printed {
+        Checked::Failed(f) => Printed {
             written,
-            error: e.code(),
-            place: p,
+            outcome: Outcome::Failed(f),
         },
     }
 }
 
-// The text for the bundle of envelope k; all 0, and no byte changed, where the buffer is shorter than `Text::MAX_LEN`.
+// The text for the bundle of envelope k; nothing is told, and no byte changed, where the buffer is shorter than
+// `Text::MAX_LEN`.
 pub fn put_bundle(k: u64, bundle: &[u8], out: &mut [u8]) -> Printed
     ensures { λ r. ⌜ Prints k (now (bundle .entry)) (now (out .entry)) r (now (out .exit)) ⌝ }
 {
     if out.len() < Text::MAX_LEN {
         return Printed {
             written: 0,
-            error: 0,
-            place: 0,
+            outcome: Outcome::Good,
         };
     }
     let t = Table::read(bundle);

@@ -7,7 +7,7 @@ use lib.ListN.{length, take, length-map}
 use Rattle.format.specs.declared.bundle.Bundle.{Bundle}
 use Rattle.format.specs.declared.error.Mode.{Mode}
 use Rattle.format.specs.declared.row.Row.{Row}
-use Rattle.format.specs.Answer.{Answer, counted, fail, good, stored, then}
+use Rattle.format.specs.Answer.{Answer, good, then}
 use Rattle.format.specs.Reading.{State, counts, countsOf, items, itemsOf, options, reading}
 use Rattle.format.specs.Rows.{itemAt, itemsAt, rowOf, rows}
 use Rattle.format.specs.Writing.{writing}
@@ -24,19 +24,18 @@ use Rattle.reader.specs.declared.checking.Checked.the-variants.{Failed, Good}
 use Rattle.reader.specs.Answers.{answerOf}
 use Rattle.format.specs.declared.written.Written.the-variants.{Done}
 use Rattle.reader.specs.Promises.{Read}
-use Rattle.writer.specs.Promises.{Wrote}
+use Rattle.format.specs.Written.{Writes}
 use Rattle.nachricht.specs.Laws.{RewritesCanonically, WrittenReadsBack}
 
 -- ---- what a good answer leaves
 
 -- What was written is the front of the buffer.
-wrote-done : {rs : List Row} {text old new : List ℕ} {n : ℕ} → Wrote rs text old (Done n) new → writing rs text (length old) ≡ good (take n new)
+wrote-done : {result : Answer (List ℕ)} {old new : List ℕ} {n : ℕ} → Writes result old (Done n) new → result ≡ good (take n new)
 wrote-done {old = old} p = stored-counted old _ (p .buffer) (sym (p .answer)) .0
 
 checked-good : (r : Checked) {b : Bundle} → answerOf r ≡ good b → r ≡ Good b
-unfolding fail
 checked-good (Good c) e = ap Good (good-inj e)
-checked-good (Failed k p) e = failed-good e
+checked-good (Failed f) e = failed-good e
 
 -- Of a bundle that reads, the counts are answered, and its rows are the front of the table.
 read-good : {mode : Mode} {bytes : List ℕ} {table table′ : List Row} {r : Checked} {u : State} → Read mode bytes table r table′ → reading (options mode (length table)) bytes ≡ good u
@@ -76,6 +75,5 @@ rewrites-canonically mode bytes table table′ b y p old new w q =
     record {
       xs = itemsOf (u .found);
       meant = ap (λ (a : Answer State). then a (λ t. good (itemsOf (t .found)))) e;
-      answer = q .answer ∙ ap counted c;
-      buffer = q .buffer ∙ ap (stored old) c;
+      writes = rw c at q;
     }

@@ -4,7 +4,9 @@ use mathlib.Core.Bool.{Bool, true, false}
 use Rattle.format.specs.declared.bundle.Bundle.{Bundle}
 use Rattle.format.specs.declared.error.Mode.{Mode}
 use Rattle.format.specs.declared.error.Mode.the-variants.{Lenient, Strict}
-use Rattle.format.specs.Answer.{Failure, failed, good}
+use Rattle.format.specs.declared.failure.Failure.{Failure}
+use Rattle.format.specs.Error.{codeOf}
+use Rattle.format.specs.Answer.{failed, good}
 use Rattle.format.specs.Answer as answer
 use Rattle.nachricht.specs.declared.Answer.{Answer}
 
@@ -13,7 +15,7 @@ modeOf true = Strict
 modeOf false = Lenient
 
 unfoldable pub failedAnswer : Failure → Answer
-failedAnswer f = record { error = f .code; place = f .place; side = f .side; count = 0; entries = 0; fields = 0 }
+failedAnswer f = record { error = codeOf (f .error); place = f .place; side = f .side; count = 0; entries = 0; fields = 0 }
 
 -- the counts of a bundle
 unfoldable pub countsAnswer : answer.Answer Bundle → Answer

@@ -6,20 +6,19 @@ use lib.ListN.{length, take, drop}
 use Rattle.format.specs.declared.bundle.Bundle.{Bundle}
 use Rattle.format.specs.declared.error.Mode.{Mode}
 use Rattle.format.specs.declared.row.Row.{Row}
-use Rattle.format.specs.Answer.{counted, good, stored}
+use Rattle.format.specs.Answer.{good}
 use Rattle.format.specs.Item.{Item}
 use Rattle.format.specs.WellFormed.{All, Bytes}
 use Rattle.format.specs.Reading.{items, options}
 use Rattle.format.specs.Rows.{itemsAt}
 use Rattle.format.specs.Canonical.{canonical}
-use Rattle.format.specs.Writing.{fitted}
+use Rattle.format.specs.Writing.{fitted, writing}
 use Rattle.reader.specs.declared.checking.Checked.{Checked}
 use Rattle.reader.specs.declared.checking.Checked.the-variants.{Good}
 use Rattle.reader.specs.Promises.{Read}
 use Rattle.format.specs.declared.written.Written.{Written}
 use Rattle.format.specs.declared.written.Written.the-variants.{Done}
-use Rattle.format.specs.Written as written
-use Rattle.writer.specs.Promises.{Wrote}
+use Rattle.format.specs.Written.{Writes}
 
 -- A row's number is a word, which its type `u64` says, as `u8` says that text is bytes.
 abbrev pub Word : Row → Type 0
@@ -41,7 +40,7 @@ pub record ReadsBack (rs : List Row) (text bytes : List ℕ) (table : List Row) 
 -- What `write` writes reads back, by `read`'s own promise, as the rows' items: in both modes, and into any table that has as many rows.
 abbrev pub WrittenReadsBack : Type 0
 WrittenReadsBack =
-    (rs : List Row) (text old new : List ℕ) (n : ℕ) → Bytes text → All Word rs → Wrote rs text old (Done n) new
+    (rs : List Row) (text old new : List ℕ) (n : ℕ) → Bytes text → All Word rs → Writes (writing rs text (length old)) old (Done n) new
     → (mode : Mode) (table table′ : List Row) (r : Checked) → length rs ≤ length table → Read mode (take n new) table r table′
     → ReadsBack rs text (take n new) table r table′
 
@@ -52,14 +51,13 @@ pub record Rewritten (mode : Mode) (bytes : List ℕ) (table : List Row) (old : 
   -- the items that the bytes read as
   pub xs : List Item
   pub meant : items (options mode (length table)) bytes ≡ good xs
-  -- the answer is the encoding's length, or error 10 where that is over the limit or the buffer
-  pub answer : written.answerOf w ≡ counted (fitted (length old) (canonical xs))
-  -- the encoding stands first in the buffer, and the rest stays as it was; on an error all of it
-  pub buffer : new ≡ stored old (fitted (length old) (canonical xs))
+  -- the answer is the encoding's length, or error 10 where that is over the limit or the buffer; the encoding stands
+  -- first in the buffer, and the rest stays as it was, on an error all of it
+  pub writes : Writes (fitted (length old) (canonical xs)) old w new
 
 -- Writing the rows that `read` filled over the bundle's own bytes gives its canonical encoding, in whichever mode it was read.
 abbrev pub RewritesCanonically : Type 0
 RewritesCanonically =
     (mode : Mode) (bytes : List ℕ) (table table′ : List Row) (b : Bundle) → Bytes bytes → Read mode bytes table (Good b) table′
-    → (old new : List ℕ) (w : Written) → Wrote (take (b .rows) table′) bytes old w new
+    → (old new : List ℕ) (w : Written) → Writes (writing (take (b .rows) table′) bytes (length old)) old w new
     → Rewritten mode bytes table old w new

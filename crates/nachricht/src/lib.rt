@@ -2,7 +2,6 @@
 ghost use mathlib.Core.Path.{_≡_};
 ghost use lib.ListN.{length};
 ghost use Rattle.format.specs.Answer.{counted, good, stored};
-ghost use Rattle.format.specs.Error.{codeOf};
 ghost use Rattle.format.specs.Limits.{max-rows};
 ghost use Rattle.format.specs.Reading.{options, counts, lenient};
 ghost use Rattle.format.specs.Rows as table;
@@ -11,13 +10,11 @@ ghost use Rattle.format.specs.Written as written;
 ghost use Rattle.format.specs.Joining.{canonicalizing, joining};
 ghost use Rattle.format.specs.Envelope.{closing, opening};
 ghost use Rattle.reader.specs.Answers.{answerOf};
-ghost use Rattle.joiner.specs.Answers as joiner;
 ghost use Rattle.nachricht.specs.Answers.{modeOf, failedAnswer, countsAnswer, countAnswer};
-use format::Error;
+use format::Failure;
 use format::Mode;
 use format::Row;
 use format::Written;
-use joiner::Joined;
 use reader::Checked;
 
 // An answer: the error's number or 0, its place and side, and the counts.
@@ -40,13 +37,14 @@ fn mode_of(strict: bool) -> Mode
     Mode::Lenient
 }
 
-fn failed(e: Error, place: usize, side: u8) -> Answer
-    ensures { λ a. ⌜ a ≡ failedAnswer (record { code = codeOf e; place = place; side = side }) ⌝ }
+fn failed(f: Failure) -> Answer
+    ensures { λ a. ⌜ a ≡ failedAnswer f ⌝ }
 {
+    let error = f.error;
     Answer {
-        error: e.code() as u64,
-        place: place as u64,
-        side: side as u64,
+        error: error.code() as u64,
+        place: f.place as u64,
+        side: f.side as u64,
         count: 0,
         entries: 0,
         fields: 0,
@@ -57,7 +55,7 @@ fn answer_of(r: Checked) -> Answer
     ensures { λ a. ⌜ a ≡ countsAnswer (answerOf r) ⌝ }
 {
     match r {
-        Checked::Failed(e, p) => failed(e, p, 0),
+        Checked::Failed(f) => failed(f),
         Checked::Good(b) => Answer {
             error: 0,
             place: 0,
@@ -87,17 +85,8 @@ fn written_of(r: Written) -> Answer
     ensures { λ a. ⌜ a ≡ countAnswer (written.answerOf r) ⌝ }
 {
     match r {
-        Written::Failed(e, p) => failed(e, p, 0),
+        Written::Failed(f) => failed(f),
         Written::Done(n) => done(n),
-    }
-}
-
-fn joined_of(r: Joined) -> Answer
-    ensures { λ a. ⌜ a ≡ countAnswer (joiner.answerOf r) ⌝ }
-{
-    match r {
-        Joined::Failed(e, p, s) => failed(e, p, s),
-        Joined::Done(n) => done(n),
     }
 }
 
@@ -142,7 +131,7 @@ pub extern "C" fn nachricht_join<'a>(first: &'a [u8], second: &'a [u8], out: &mu
     ensures answer { λ r. ⌜ r ≡ countAnswer (counted (joining lenient (now (first .entry)) (now (second .entry)) (length (now (out .entry))))) ⌝ }
     ensures buffer { λ _. ⌜ now (out .exit) ≡ stored (now (out .entry)) (joining lenient (now (first .entry)) (now (second .entry)) (length (now (out .entry)))) ⌝ }
 {
-    joined_of(joiner::join(first, second, out))
+    written_of(joiner::join(first, second, out))
 }
 
 // Opens an envelope: the bundle's length. It begins after the length and the version, at offset 3.
@@ -150,16 +139,7 @@ pub extern "C" fn nachricht_join<'a>(first: &'a [u8], second: &'a [u8], out: &mu
 pub extern "C" fn nachricht_open(envelope: &[u8]) -> Answer
     ensures { λ r. ⌜ r ≡ countAnswer (counted (opening (now (envelope .entry)))) ⌝ }
 {
-    let outcome = envelope::open_error(envelope);
-    let bundle = envelope::open(envelope);
-    Answer {
-        error: outcome.error as u64,
-        place: outcome.place as u64,
-        side: 0,
-        count: bundle.len() as u64,
-        entries: 0,
-        fields: 0,
-    }
+    written_of(envelope::bundle_len(envelope))
 }
 
 // Writes the envelope of a bundle.

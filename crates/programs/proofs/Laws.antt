@@ -3,7 +3,9 @@ use mathlib.Core.Path.{_≡_, refl, sym, subst, _∙_}
 use mathlib.Core.Bool.{false}
 use Prim.Native.Nat.{ℕ}
 use native.Mathlib.Omega.{arith}
-use Rattle.format.proofs.Tests.{cases, clash, equal}
+use Rattle.format.proofs.Tests.{cases, clash}
+use Rattle.stream.specs.declared.state.Refusal.{Refusal}
+use Rattle.stream.specs.declared.state.Refusal.the-variants.{First, None}
 use Rattle.stream.specs.declared.state.Stream.{Stream}
 use Rattle.stream.proofs.Laws.{whole-run}
 use Rattle.runner.specs.declared.program.Program.{Program}
@@ -25,9 +27,12 @@ module _ (s : Stream) (good : statusOf s ≡ 0) where
   nothing-stopped : s .stopped ≡ false
   nothing-stopped = cases (s .stopped) (λ e. absurd (omega (arith, told (status-stopped s nothing-failed e)))) (λ e. e)
 
-  nothing-refused : s .refusal .error ≡ 0
-  nothing-refused =
-      equal (s .refusal .error) 0 (λ e. e) (λ e. absurd (omega (arith, told (status-refused s nothing-failed nothing-stopped e))))
+  nothing-refused : s .refusal ≡ None
+  nothing-refused = go (s .refusal) refl
+    where
+      go : (r : Refusal) → s .refusal ≡ r → r ≡ None
+      go None e = refl
+      go (First k f) e = absurd (omega (arith, told (status-refused s nothing-failed nothing-stopped e)))
 
 module _ (p : Program) where
   all-processed : {n : ℕ} {s : Stream} → Served (filterOf p) n s → s .failed ≡ false → Processed (filterOf p) n s

@@ -6,16 +6,18 @@ use Prim.Native.Nat.{ℕ, suc, _+_, _-_, _≤_, _<_}
 use native.Mathlib.Omega.{arith}
 use mathlib.Core.List.{List, [], _∷_}
 use lib.ListN.{length, getD}
-use Rattle.format.specs.Choice.{_&&_, pick}
+use Rattle.format.specs.Choice.{_&&_, _||_, pick}
 use Rattle.format.specs.Names.{same}
 use Rattle.format.proofs.Tests.{clash, eqb-no, eqb-yes, ltb-no, ltb-yes, pick-no, pick-yes}
 use Rattle.ascii.specs.Text.{ascii}
+use Rattle.format.specs.declared.failure.Failure.{Failure}
+use Rattle.stream.specs.declared.state.Refusal.the-variants.{First, None}
 use Rattle.stream.specs.declared.state.Stream.{Stream}
 use Rattle.stream.specs.State.{first}
 use Rattle.stream.specs.Run.{Filter, Runs}
 use Rattle.programs.specs.declared.arguments.Argument.the-variants.{File, Help, Version, Unknown}
 use Rattle.programs.specs.Arguments.{argumentOf}
-use Rattle.programs.specs.Exit.{Served, Serves, Serving, inputsOf, no-input, one-more, ran, statusOf}
+use Rattle.programs.specs.Exit.{Served, Serves, Serving, inputsOf, isRefusal, no-input, one-more, ran, statusOf}
 
 -- ---- one argument
 
@@ -89,14 +91,14 @@ module _ (s : Stream) where
 
   module _ (fine : s .failed ≡ false) where
     pub status-stopped : s .stopped ≡ true → statusOf s ≡ 1
-    unfolding statusOf
-    status-stopped e = pick-no _ _ fine ∙ pick-yes _ _ e
+    unfolding statusOf _||_
+    status-stopped e = pick-no _ _ fine ∙ pick-yes _ _ (rw e)
 
     module _ (going : s .stopped ≡ false) where
-      pub status-refused : s .refusal .error ≢ 0 → statusOf s ≡ 1
-      unfolding statusOf
-      status-refused e = pick-no _ _ fine ∙ pick-no _ _ going ∙ pick-no _ _ (eqb-no e)
+      pub status-refused : {k : ℕ} {f : Failure} → s .refusal ≡ First k f → statusOf s ≡ 1
+      unfolding statusOf isRefusal _||_
+      status-refused e = pick-no _ _ fine ∙ pick-yes _ _ (rw (going, e))
 
-      pub status-good : s .refusal .error ≡ 0 → statusOf s ≡ 0
-      unfolding statusOf
-      status-good e = pick-no _ _ fine ∙ pick-no _ _ going ∙ pick-yes _ _ (eqb-yes e)
+      pub status-good : s .refusal ≡ None → statusOf s ≡ 0
+      unfolding statusOf isRefusal _||_
+      status-good e = pick-no _ _ fine ∙ pick-no _ _ (rw (going, e))

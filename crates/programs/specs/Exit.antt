@@ -2,10 +2,12 @@
 use mathlib.Core.Path.{_≡_}
 use mathlib.Core.Logic.{_⊎_}
 use Prim.Native.Nat.{ℕ, suc, _+_, _-_}
-use mathlib.Core.Bool.{false}
-use lib.Dec.{eqb, ltb}
-use Rattle.format.specs.Choice.{pick}
+use mathlib.Core.Bool.{Bool, true, false}
+use lib.Dec.{ltb}
+use Rattle.format.specs.Choice.{_||_, pick}
 use Rattle.messages.specs.Text.{max-refusal}
+use Rattle.stream.specs.declared.state.Refusal.{Refusal}
+use Rattle.stream.specs.declared.state.Refusal.the-variants.{First, None}
 use Rattle.stream.specs.declared.state.Stream.{Stream}
 use Rattle.stream.specs.State.{broken, first}
 use Rattle.stream.specs.Run.{Filter, Runs}
@@ -39,9 +41,13 @@ inputsOf arguments = pick (ltb arguments 2) 1 (arguments - 1)
 
 -- ---- the exit status
 
+unfoldable pub isRefusal : Refusal → Bool
+isRefusal None = false
+isRefusal (First k f) = true
+
 -- 2 where something failed, 1 where an envelope was refused, whether that stopped the run or not, else 0.
 unfoldable pub statusOf : Stream → ℕ
-statusOf s = pick (s .failed) 2 (pick (s .stopped) 1 (pick (eqb (s .refusal .error) 0) 0 1))
+statusOf s = pick (s .failed) 2 (pick (s .stopped || isRefusal (s .refusal)) 1 0)
 
 -- A text was printed, or that failed.
 abbrev pub Prints : ℕ → Type 0

@@ -3,6 +3,7 @@ use mathlib.Core.Path.{_≡_}
 use Prim.Native.Nat.{ℕ, suc}
 use mathlib.Core.Bool.{false}
 use mathlib.Core.List.{[]}
+use Rattle.stream.specs.declared.state.Refusal.the-variants.{None}
 use Rattle.stream.specs.declared.state.Stream.{Stream}
 use Rattle.stream.specs.State.{first}
 use Rattle.stream.specs.Run.{Filter, Runs}
@@ -23,4 +24,4 @@ pub record Told (p : Program) (inputs : ℕ) (s : Stream) (serving : Serving (fi
   -- Where nothing failed, each input that was served was processed whole.
   pub whole : s .failed ≡ false → Processed (filterOf p) (serving .count) s
   -- Exit status 0: so was every input, and no envelope was refused.
-  pub good : statusOf s ≡ 0 → Processed (filterOf p) inputs s × (s .refusal .error ≡ 0)
+  pub good : statusOf s ≡ 0 → Processed (filterOf p) inputs s × (s .refusal ≡ None)

@@ -13,23 +13,24 @@ use crate::sources::serve_all;
 use libc::STDERR_FILENO;
 use messages::put_unknown_option;
 use runner::Program;
+use stream::Refusal;
 use stream::Stream;
 
 // 2 where something failed, 1 where an envelope was refused, whether that stopped the run or not, else 0.
 fn status(s: Stream) -> u8
     ensures { λ r. ⌜ r ≡ statusOf s ⌝ }
 {
-    let refusal = s.refusal;
     if s.failed {
         return 2;
     }
     if s.stopped {
         return 1;
     }
-    if refusal.error != 0 {
-        return 1;
+    let refusal = s.refusal;
+    match refusal {
+        Refusal::First(_, _) => 1,
+        Refusal::None => 0,
     }
-    0
 }
 
 // Says that argument i is an option that there is not.

@@ -47,14 +47,17 @@ fn say_failure(name: &[u8], subject: &[u8])
 fn say_refusal(line: &mut [u8], n: usize, before: Refusal, after: Refusal)
     requires { ⌜ n + max-refusal ≤ length (now line) ⌝ }
 {
-    if before.error != 0 {
-        return;
+    match before {
+        Refusal::First(_, _) => {}
+        Refusal::None => match after {
+            Refusal::None => {}
+            Refusal::First(k, f) => {
+                let error = f.error;
+                let end = n + put_refusal(k, error.code(), f.place, &mut line[n..]);
+                io::write_all(STDERR_FILENO, &line[..end]);
+            }
+        },
     }
-    if after.error == 0 {
-        return;
-    }
-    let end = n + put_refusal(after.envelope, after.error, after.place, &mut line[n..]);
-    io::write_all(STDERR_FILENO, &line[..end]);
 }
 
 // The run over one input, which messages call by its name.
@@ -67,7 +70,9 @@ fn serve(program: Program, name: &[u8], source: i32, subject: &[u8], s: Stream) 
     let mut writing = Line::new();
     let m = put_label(name, b"standard output", &mut writing);
     let r = run(program, source, s, &reading[..n], &writing[..m]);
-    say_refusal(&mut reading, n, s.refusal, r.refusal);
+    let before = s.refusal;
+    let after = r.refusal;
+    say_refusal(&mut reading, n, before, after);
     r
 }
 

@@ -8,7 +8,6 @@ use native.Mathlib.Omega.{arith}
 use lib.ListN.{length}
 use Rattle.format.specs.Limits.{max-rows}
 use Rattle.format.specs.declared.error.Error.the-variants.{TooManyRows}
-use Rattle.format.specs.Error.{codeOf}
 use Rattle.format.specs.Answer.{Answer, good, fail}
 use Rattle.format.specs.Place.{Place, ended}
 use Rattle.format.specs.Reading.{Options, State}
@@ -35,7 +34,7 @@ pub record Taken (o : Options) (s es : List ℕ) (at names keyed rows : ℕ) (p 
   pub row : length (next .found) + rows ≡ min max-rows (o .capacity)
 
 abbrev pub Takes : Options → List ℕ → List ℕ → ℕ → ℕ → State → Answer State → Out → Type 0
-Takes o s es names rows a r (out.Bad e) = r ≡ fail (codeOf e) (a .at)
+Takes o s es names rows a r (out.Bad e) = r ≡ fail e (a .at)
 Takes o s es names rows a r (out.Value u) = Taken o s es u names 0 (rows - 1) (ended (a .place .opened) (a .place .fields)) r
 Takes o s es names rows a r (out.Key u) = Taken o s es u names 1 (rows - 1) (spot (a .place .opened) true (a .place .fields)) r
 Takes o s es names rows a r (out.NewSymbol u) = Taken o s es u (names + 1) 0 (rows - 1) (ended (a .place .opened) (a .place .fields)) r
@@ -43,7 +42,7 @@ Takes o s es names rows a r (out.NewKey u) = Taken o s es u (names + 1) 1 (rows 
 Takes o s es names rows a r (out.Container n u) = Taken o s es u names 0 (rows - 1) (spot (n .0 ∷ a .place .opened) false (a .place .fields)) r
 
 module _ (o : Options) (a : State) (rows : ℕ) (e : length (a .found) + rows ≡ min max-rows (o .capacity)) where
-  full : rows ≡ 0 → (b : State) → rowed o a b ≡ fail 7 (a .at)
+  full : rows ≡ 0 → (b : State) → rowed o a b ≡ fail TooManyRows (a .at)
   unfolding rowed
   full z b = pick-yes _ _ (leb-yes {a = min max-rows (o .capacity)} {b = length (a .found)} (omega arith))
 
@@ -55,7 +54,7 @@ module _ (o : Options) (a : State) (rows : ℕ) (e : length (a .found) + rows �
     taken : {at names keyed : ℕ} {p : Place} → rows ≢ 0 → Goes o s es at names keyed p a r → Taken o s es at names keyed (rows - 1) p r
     taken n g = record { next = g .next; is = g .is ∙ vacant n (g .next); stands = g .stands; place = g .place; row = omega (arith, n, g .row) }
 
-    refused : {at names keyed : ℕ} {p : Place} → rows ≡ 0 → Goes o s es at names keyed p a r → r ≡ fail 7 (a .at)
+    refused : {at names keyed : ℕ} {p : Place} → rows ≡ 0 → Goes o s es at names keyed p a r → r ≡ fail TooManyRows (a .at)
     refused z g = g .is ∙ full z (g .next)
 
     pub takes : (names : ℕ) (x : Out) → rows ≢ 0 → Judged o s es names a r x → Takes o s es names rows a r x

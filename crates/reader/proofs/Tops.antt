@@ -6,12 +6,11 @@ use Prim.Native.Nat.{ℕ, _+_, _-_, _≤_, _<_, min}
 use native.Mathlib.Omega.{arith}
 use lib.Dec.{eqb}
 use lib.ListN.{length, drop, replicate}
-use Rattle.format.specs.declared.error.Error.{Error}
-use Rattle.format.specs.declared.error.Error.the-variants.{Truncated, TooLong}
+use Rattle.format.specs.declared.failure.Failure.{Failure}
+use Rattle.format.specs.declared.error.Error.the-variants.{TooLong, Truncated}
 use Rattle.format.specs.Choice.{_||_}
 use Rattle.format.specs.Limits.{max-bytes, max-rows, max-depth}
-use Rattle.format.specs.Error.{codeOf}
-use Rattle.format.specs.Answer.{Answer, good, fail, then}
+use Rattle.format.specs.Answer.{Answer, fail, failed, good, then}
 use Rattle.format.specs.Place.{Place, top, ended, due}
 use Rattle.format.specs.Reading.{Options, State, start, ending, run, reading, countsOf, counts}
 use Rattle.format.proofs.Steps.{run-end}
@@ -55,7 +54,7 @@ top-place = refl
 -- ---- the ends
 
 module _ (o : Options) (s : List ℕ) where
-  pub too-long : max-bytes < length s → answerOf (checked.Failed TooLong 0) ≡ counts o s
+  pub too-long : max-bytes < length s → fail TooLong 0 ≡ counts o s
   unfolding counts reading then fail
   too-long l = sym (ap (λ (x : Answer State). then x (λ u. good (countsOf u))) (pick-yes _ _ (ltb-yes l)))
 
@@ -64,17 +63,17 @@ module _ (o : Options) (s : List ℕ) where
     unfolding counts reading start
     from-start v e = ap (λ (x : Answer State). then x (λ u. good (countsOf u))) (pick-no _ _ (ltb-no short) ∙ e)
 
-    pub top-failed : (k : Error) (p : ℕ) → run o start 0 (drop (start .at) s) ≡ fail (codeOf k) p → answerOf (checked.Failed k p) ≡ counts o s
-    unfolding then fail
-    top-failed k p e = sym (from-start (fail (codeOf k) p) e)
+    pub top-failed : {f : Failure} → run o start 0 (drop (start .at) s) ≡ failed f → failed f ≡ counts o s
+    unfolding then
+    top-failed {f} e = sym (from-start (failed f) e)
 
     module _ {es : List ℕ} {t : Cursor} {f : ℕ} (lead : Leads o s es t (spot [] (eqb (t .keyed) 1) f) start) (l : length s ≤ t .at) where
       at-end : run o start 0 (drop (start .at) s) ≡ ending (lead .next)
       at-end = lead .is ∙ run-end o (lead .next) s (omega (arith, lead .stands .offset))
 
-      pub top-keyed : eqb (t .keyed) 1 ≡ true → answerOf (checked.Failed Truncated (t .at)) ≡ counts o s
-      unfolding ending due _||_
-      top-keyed k = top-failed Truncated (t .at) (at-end ∙ pick-yes _ _ (ap due (lead .place) ∙ rw k) ∙ ap (fail 2) (lead .stands .offset))
+      pub top-keyed : eqb (t .keyed) 1 ≡ true → fail Truncated (t .at) ≡ counts o s
+      unfolding fail ending due _||_
+      top-keyed k = top-failed (at-end ∙ pick-yes _ _ (ap due (lead .place) ∙ rw k) ∙ ap (fail Truncated) (lead .stands .offset))
 
       pub top-good : (most : ℕ) → min max-rows (o .capacity) ≡ most → length es ≡ 256 → t .names ≤ 256 → eqb (t .keyed) 1 ≡ false
           → answerOf (checked.Good (record { rows = most - t .rows; entries = t .names; fields = f })) ≡ counts o s

@@ -12,8 +12,8 @@ use Rattle.format.specs.declared.error.Error.the-variants.{TooManyRows, Truncat
 use Rattle.format.specs.declared.header.FieldCount.{FieldCount}
 use Rattle.format.specs.Choice.{_||_}
 use Rattle.format.specs.Limits.{max-rows, max-depth}
-use Rattle.format.specs.Error.{codeOf}
-use Rattle.format.specs.Answer.{Answer, fail}
+use Rattle.format.specs.declared.failure.Failure.{Failure}
+use Rattle.format.specs.Answer.{Answer, fail, failed, failure}
 use Rattle.format.specs.Place.{Place, ended, due}
 use Rattle.format.specs.Reading.{Options, State, item, ending, run}
 use Rattle.format.proofs.Steps.{run-to, run-failed, run-end}
@@ -95,16 +95,17 @@ module _ {o : Options} {s es : List ℕ} {t : Cursor} {p : Place} {a : State} (l
       let e : length (from .place .opened) + d ≡ max-depth = subst (λ (x : Place). length (x .opened) + d ≡ max-depth) (sym (lead .place)) deep in
       subst (λ (x : ℕ). Judged o s es′ (t .names) from (item o from (drop x s)) r) (sym (lead .stands .offset)) (one from (lead .stands) e)
 
-  stops : (k : Error) → this ≡ fail (codeOf k) (from .at) → run o a 0 (drop (a .at) s) ≡ fail (codeOf k) (t .at)
+  stops : {f : Failure} (k : Error) → f ≡ failure k (t .at) → this ≡ fail k (from .at) → run o a 0 (drop (a .at) s) ≡ failed f
   unfolding fail
-  stops k j = lead .is ∙ run-failed o from s (omega (arith, lead .stands .offset)) j ∙ ap (fail (codeOf k)) (lead .stands .offset)
+  stops k g j =
+      lead .is ∙ run-failed o from s (omega (arith, lead .stands .offset)) j ∙ ap (λ (p : ℕ). failed (failure k p)) (lead .stands .offset) ∙ ap failed (sym g)
 
-  pub turn-bad : (k : Error) → r ≡ out.Bad k → run o a 0 (drop (a .at) s) ≡ fail (codeOf k) (t .at)
-  turn-bad k e = stops k (subst (Judged o s es′ (t .names) from this) e judged)
+  pub turn-bad : {f : Failure} (k : Error) → f ≡ failure k (t .at) → r ≡ out.Bad k → run o a 0 (drop (a .at) s) ≡ failed f
+  turn-bad k g e = stops k g (subst (Judged o s es′ (t .names) from this) e judged)
 
   -- an item that is no error, and no row for it
-  pub turn-full : (x : Out) → r ≡ x → rowlessOf x ≡ out.Bad TooManyRows → t .rows ≡ 0 → run o a 0 (drop (a .at) s) ≡ fail (codeOf TooManyRows) (t .at)
-  turn-full x g e z = stops TooManyRows (subst (Takes o s es′ (t .names) (t .rows) from this) (ap rowlessOf g ∙ e) (takes-none o from (t .rows) (lead .row) s es′ this (t .names) r z judged))
+  pub turn-full : {f : Failure} → f ≡ failure TooManyRows (t .at) → (x : Out) → r ≡ x → rowlessOf x ≡ out.Bad TooManyRows → t .rows ≡ 0 → run o a 0 (drop (a .at) s) ≡ failed f
+  turn-full h x g e z = stops TooManyRows h (subst (Takes o s es′ (t .names) (t .rows) from this) (ap rowlessOf g ∙ e) (takes-none o from (t .rows) (lead .row) s es′ this (t .names) r z judged))
 
   leads-on : {at names keyed rows : ℕ} {q : Place} → Taken o s es′ at names keyed rows q this → Leads o s es′ (cursor at names rows keyed) q a
   leads-on g = record { next = g .next; is = lead .is ∙ run-to o from s (g .is); stands = g .stands; row = g .row; place = g .place }
@@ -128,16 +129,16 @@ module _ {o : Options} {s es : List ℕ} {t : Cursor} {p : Place} {a : State} (l
         all (inside (p .opened) (p .fields)) (held .next) (inside-lane (p .opened) (p .fields) (d - 1) (n .0) (omega arith)) (held .stands) (held .row)
         (held .place ∙ sym (midway-some (n .0) false (p .opened) (p .fields) some))
 
-    pub held-bad : (k : Error) (b : ℕ) → q ≡ step.Bad k b → run o a 0 (drop (a .at) s) ≡ fail (codeOf k) b
-    held-bad k b g = held .is ∙ subst (λ (v : Step). Resumes o s es″ (inside (p .opened) (p .fields)) (held .next) v) g resumed
+    pub held-bad : (f : Failure) → q ≡ step.Bad f → run o a 0 (drop (a .at) s) ≡ failed f
+    held-bad f g = held .is ∙ subst (λ (v : Step). Resumes o s es″ (inside (p .opened) (p .fields)) (held .next) v) g resumed
 
     -- the bytes end inside a container
-    pub held-end : (left : ℕ) (v : Cursor) → q ≡ step.End left v → 0 < left → length s ≤ v .at → run o a 0 (drop (a .at) s) ≡ fail 2 (v .at)
-    unfolding ending
-    held-end left v g l w =
+    pub held-end : {f : Failure} (left : ℕ) (v : Cursor) → f ≡ failure Truncated (v .at) → q ≡ step.End left v → 0 < left → length s ≤ v .at → run o a 0 (drop (a .at) s) ≡ failed f
+    unfolding ending fail
+    held-end left v h g l w =
         let r : Leads o s es″ v (midway left (eqb (v .keyed) 1) (p .opened) (p .fields)) (held .next) = subst (λ (v : Step). Resumes o s es″ (inside (p .opened) (p .fields)) (held .next) v) g resumed in
         let x : due (r .next .place) ≡ true = ap due (r .place ∙ midway-some left (eqb (v .keyed) 1) (p .opened) (p .fields) l) ∙ due-open left (p .opened) (eqb (v .keyed) 1) (p .fields) in
-        held .is ∙ r .is ∙ run-end o (r .next) s (omega (arith, r .stands .offset)) ∙ pick-yes _ _ x ∙ ap (fail 2) (r .stands .offset)
+        held .is ∙ r .is ∙ run-end o (r .next) s (omega (arith, r .stands .offset)) ∙ pick-yes _ _ x ∙ ap (λ (p : ℕ). failed (failure Truncated p)) (r .stands .offset) ∙ ap failed (sym h)
 
     pub held-good : (v : Cursor) → q ≡ step.Good v → Leads o s es″ v (ended (p .opened) (p .fields)) a
     unfolding midway
@@ -155,11 +156,11 @@ module _ {o : Options} {s es : List ℕ} {t : Cursor} {a : State} (Q : ℕ → B
   abbrev less : ended (Q left (eqb (t .keyed) 1) .opened) (Q left (eqb (t .keyed) 1) .fields) ≡ Q (left - 1) false
   less = lane .value left (eqb (t .keyed) 1) pos most
 
-  pub field-bad : (k : Error) → r ≡ out.Bad k → run o a 0 (drop (a .at) s) ≡ fail (codeOf k) (t .at)
-  field-bad k e = turn-bad lead here es′ d deep r one k e
+  pub field-bad : {f : Failure} (k : Error) → f ≡ failure k (t .at) → r ≡ out.Bad k → run o a 0 (drop (a .at) s) ≡ failed f
+  field-bad k g e = turn-bad lead here es′ d deep r one k g e
 
-  pub field-full : (x : Out) → r ≡ x → rowlessOf x ≡ out.Bad TooManyRows → t .rows ≡ 0 → run o a 0 (drop (a .at) s) ≡ fail (codeOf TooManyRows) (t .at)
-  field-full x g e z = turn-full lead here es′ d deep r one x g e z
+  pub field-full : {f : Failure} → f ≡ failure TooManyRows (t .at) → (x : Out) → r ≡ x → rowlessOf x ≡ out.Bad TooManyRows → t .rows ≡ 0 → run o a 0 (drop (a .at) s) ≡ failed f
+  field-full h x g e z = turn-full lead here es′ d deep r one h x g e z
 
   pub field-value : t .rows ≢ 0 → (u : ℕ) → r ≡ out.Value u → Leads o s es′ (cursor u (t .names) (t .rows - 1) 0) (Q (left - 1) false) a
   field-value z u e = at-place less (turn-on lead here es′ d deep r one u (t .names) 0 (t .rows - 1) (λ (x : Place). ended (x .opened) (x .fields)) (turn-item lead here es′ d deep r one z (out.Value u) e))
@@ -174,11 +175,11 @@ module _ {o : Options} {s es : List ℕ} {t : Cursor} {a : State} (Q : ℕ → B
   field-new-key z u e = at-place (lane .key left (eqb (t .keyed) 1) pos most) (turn-on lead here es′ d deep r one u (t .names + 1) 1 (t .rows - 1) (λ (x : Place). spot (x .opened) true (x .fields)) (turn-item lead here es′ d deep r one z (out.NewKey u) e))
 
   module _ (z : t .rows ≢ 0) (c : FieldCount) (u : ℕ) (e : r ≡ out.Container c u) (room : 0 < d) (some : 0 < c .0) (es″ : List ℕ) (q : Step) (all : Resumed o s es′ es″ u (t .names) (t .rows - 1) (d - 1) (c .0) q) where
-    pub field-held-bad : (k : Error) (b : ℕ) → q ≡ step.Bad k b → run o a 0 (drop (a .at) s) ≡ fail (codeOf k) b
-    field-held-bad k b g = held-bad lead here es′ d deep r one z c u e room some es″ q all k b g
+    pub field-held-bad : (f : Failure) → q ≡ step.Bad f → run o a 0 (drop (a .at) s) ≡ failed f
+    field-held-bad f g = held-bad lead here es′ d deep r one z c u e room some es″ q all f g
 
-    pub field-held-end : (l : ℕ) (v : Cursor) → q ≡ step.End l v → 0 < l → length s ≤ v .at → run o a 0 (drop (a .at) s) ≡ fail (codeOf Truncated) (v .at)
-    field-held-end l v g p w = held-end lead here es′ d deep r one z c u e room some es″ q all l v g p w
+    pub field-held-end : {f : Failure} (l : ℕ) (v : Cursor) → f ≡ failure Truncated (v .at) → q ≡ step.End l v → 0 < l → length s ≤ v .at → run o a 0 (drop (a .at) s) ≡ failed f
+    field-held-end l v h g p w = held-end lead here es′ d deep r one z c u e room some es″ q all l v h g p w
 
     pub field-held-good : (v : Cursor) → q ≡ step.Good v → v .keyed ≡ 0 → Leads o s es″ (cursor (v .at) (v .names) (v .rows) 0) (Q (left - 1) false) a
     field-held-good v g k =

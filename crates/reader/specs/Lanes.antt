@@ -6,8 +6,7 @@ use Prim.Native.Nat.{ℕ, _+_, _-_, _≤_, _<_, min}
 use lib.Dec.{eqb}
 use lib.ListN.{length, drop}
 use Rattle.format.specs.Limits.{max-rows, max-depth}
-use Rattle.format.specs.Error.{codeOf}
-use Rattle.format.specs.Answer.{fail}
+use Rattle.format.specs.Answer.{failed}
 use Rattle.format.specs.Place.{Place, ended}
 use Rattle.format.specs.Reading.{Options, State, run}
 use Rattle.reader.specs.declared.fields.Cursor.{Cursor}
@@ -23,7 +22,7 @@ pub record Lane (Q : ℕ → Bool → Place) (d n : ℕ) : Type 0 where
 
 -- What the code needs of an answer. Each field takes at least a byte.
 abbrev pub Went : Bool → List ℕ → List ℕ → List ℕ → ℕ → ℕ → Step → Type 0
-Went strict s es links from n (step.Bad e p) = Unit
+Went strict s es links from n (step.Bad f) = Unit
 Went strict s es links from n (step.End left u) = Fair strict s es links (u .names) × (length s ≤ u .at) × (0 < left) × (left ≤ n)
 Went strict s es links from n (step.Good u) = Fair strict s es links (u .names) × (n + from ≤ u .at) × (u .at ≤ length s) × (u .keyed ≡ 0)
 
@@ -36,6 +35,6 @@ pub record Leads (o : Options) (s es : List ℕ) (u : Cursor) (p : Place) (a : S
   pub place : next .place ≡ p
 
 abbrev pub Resumes : Options → List ℕ → List ℕ → (ℕ → Bool → Place) → State → Step → Type 0
-Resumes o s es Q a (step.Bad e p) = run o a 0 (drop (a .at) s) ≡ fail (codeOf e) p
+Resumes o s es Q a (step.Bad f) = run o a 0 (drop (a .at) s) ≡ failed f
 Resumes o s es Q a (step.End left u) = Leads o s es u (Q left (eqb (u .keyed) 1)) a
 Resumes o s es Q a (step.Good u) = Leads o s es u (Q 0 false) a

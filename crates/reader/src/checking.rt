@@ -3,21 +3,31 @@ ghost use mathlib.Core.Path.{_≡_};
 ghost use Prim.Native.Nat.{ℕ, _≤_, min};
 ghost use Rattle.format.specs.declared.error.Mode.the-variants.{Lenient};
 ghost use Rattle.format.specs.Limits.{max-rows};
+ghost use Rattle.format.specs.Answer.{fail};
 ghost use Rattle.format.specs.Reading.{options, counts};
 ghost use Rattle.reader.specs.Answers.{answerOf};
 use crate::fields::Step;
 use format::Bundle;
 use format::Error;
+use format::Failure;
 use format::FieldCount;
 use format::Mode;
 use format::Row;
 use format::SymbolTable;
 use symbols::lookup::Links;
 
-// The counts of a bundle that reads, or the error and its offset.
+// The counts of a bundle that reads, or why it does not; the place is an offset.
 pub enum Checked {
     Good(Bundle),
-    Failed(Error, usize),
+    Failed(Failure),
+}
+
+impl Checked {
+    pub fn fail(error: Error, place: usize) -> Checked
+        ensures { λ r. ⌜ answerOf r ≡ fail error place ⌝ }
+    {
+        Checked::Failed(Failure::new(error, place))
+    }
 }
 
 // The counts of a bundle of which most rows may be read.
@@ -26,7 +36,7 @@ pub fn walk(bytes: &[u8], mode: Mode, most: usize) -> Checked
     ensures { λ r. ⌜ ((n : ℕ) → min max-rows n ≡ most → answerOf r ≡ counts (options mode n) (now (bytes .entry))) ⌝ }
 {
     if Bundle::MAX_BYTES < bytes.len() {
-        return Checked::Failed(Error::TooLong, 0);
+        return Checked::fail(Error::TooLong, 0);
     }
     let mut entries = [0u64; SymbolTable::MAX_ENTRIES];
     let mut links = [0u16; Links::SIZE];
@@ -43,10 +53,10 @@ pub fn walk(bytes: &[u8], mode: Mode, most: usize) -> Checked
         &mut entries,
         &mut links,
     ) {
-        Step::Bad(k, p) => Checked::Failed(k, p),
+        Step::Bad(f) => Checked::Failed(f),
         Step::End(left, u) => {
             if u.keyed == 1 {
-                return Checked::Failed(Error::Truncated, u.at);
+                return Checked::fail(Error::Truncated, u.at);
             }
             Checked::Good(Bundle {
                 rows: most - u.rows,
@@ -54,7 +64,7 @@ pub fn walk(bytes: &[u8], mode: Mode, most: usize) -> Checked
                 fields: (16385 - left) as usize,
             })
         }
-        Step::Good(u) => Checked::Failed(Error::Truncated, u.at),
+        Step::Good(u) => Checked::fail(Error::Truncated, u.at),
     }
 }
 

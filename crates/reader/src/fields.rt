@@ -9,6 +9,7 @@ ghost use Rattle.format.specs.Reading.{Options, State};
 ghost use Rattle.items.specs.Judging.{Fair, Stands};
 ghost use Rattle.reader.specs.Lanes.{Lane, Went, Resumes};
 use format::Error;
+use format::Failure;
 use format::FieldCount;
 use format::SymbolTable;
 use items::item::Out;
@@ -22,9 +23,9 @@ pub struct Cursor {
     pub keyed: usize,
 }
 
-// What fields come to: an error, the end of the bytes with some of them left, or all are read.
+// What fields come to: a failure, the end of the bytes with some of them left, or all are read.
 pub enum Step {
-    Bad(Error, usize),
+    Bad(Failure),
     End(u64, Cursor),
     Good(Cursor),
 }
@@ -65,11 +66,11 @@ pub fn fields(
         }
         match items::item::one(s, strict, depth, at, names, keyed, entries, links) {
             Out::Bad(k) => {
-                return Step::Bad(k, at);
+                return Step::Bad(Failure::new(k, at));
             }
             Out::Value(u) => {
                 if rows == 0 {
-                    return Step::Bad(Error::TooManyRows, at);
+                    return Step::Bad(Failure::new(Error::TooManyRows, at));
                 }
                 at = u;
                 rows -= 1;
@@ -78,7 +79,7 @@ pub fn fields(
             }
             Out::Key(u) => {
                 if rows == 0 {
-                    return Step::Bad(Error::TooManyRows, at);
+                    return Step::Bad(Failure::new(Error::TooManyRows, at));
                 }
                 at = u;
                 rows -= 1;
@@ -86,7 +87,7 @@ pub fn fields(
             }
             Out::NewSymbol(u) => {
                 if rows == 0 {
-                    return Step::Bad(Error::TooManyRows, at);
+                    return Step::Bad(Failure::new(Error::TooManyRows, at));
                 }
                 at = u;
                 names += 1;
@@ -96,7 +97,7 @@ pub fn fields(
             }
             Out::NewKey(u) => {
                 if rows == 0 {
-                    return Step::Bad(Error::TooManyRows, at);
+                    return Step::Bad(Failure::new(Error::TooManyRows, at));
                 }
                 at = u;
                 names += 1;
@@ -105,14 +106,14 @@ pub fn fields(
             }
             Out::Container(n, u) => {
                 if rows == 0 {
-                    return Step::Bad(Error::TooManyRows, at);
+                    return Step::Bad(Failure::new(Error::TooManyRows, at));
                 }
                 match fields(s, strict, depth - 1, n, u, names, rows - 1, entries, links) {
-                    Step::Bad(k, p) => {
-                        return Step::Bad(k, p);
+                    Step::Bad(f) => {
+                        return Step::Bad(f);
                     }
                     Step::End(_, v) => {
-                        return Step::Bad(Error::Truncated, v.at);
+                        return Step::Bad(Failure::new(Error::Truncated, v.at));
                     }
                     Step::Good(v) => {
                         at = v.at;

@@ -47,7 +47,7 @@ fn count_of(answer: Checked) -> usize
 {
     match answer {
         Checked::Good(b) => b.rows,
-        Checked::Failed(_, _) => 0,
+        Checked::Failed(_) => 0,
     }
 }
 

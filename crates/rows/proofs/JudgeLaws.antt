@@ -10,7 +10,10 @@ use native.Mathlib.Omega.{arith}
 use lib.Dec.{eqb, ltb, leb}
 use lib.ListN.{length, set, length-append, length-map}
 use Rattle.format.specs.declared.row.Row.{Row}
-use Rattle.format.specs.Choice.{pick, _&&_, _||_}
+use Rattle.format.specs.declared.error.Error.{Error}
+use Rattle.format.specs.declared.error.Error.the-variants.{InvalidRow, InvalidUtf8, TooDeep, TooManyEntries, UnexpectedKey}
+use Rattle.format.specs.Choice.{pick, _&&_}
+use Rattle.format.specs.Error.{codeOf}
 use Rattle.format.specs.Answer.{failure, rule, first, fail, unless, then}
 use Rattle.format.specs.Utf8.{utf8}
 use Rattle.format.specs.Item.{Item, isText, isName, isKey, isContainer}
@@ -27,7 +30,7 @@ use Rattle.rows.specs.declared.state.State.{State}
 use Rattle.rows.specs.Stack.{bottom, Stands}
 use Rattle.rows.specs.Steps.{refused, valued, keyedBy, namedBy, openedBy}
 use Rattle.encoder.specs.Plan.{Measured}
-use Rattle.rows.specs.Judging.{isRowError, After, Ready, Next}
+use Rattle.rows.specs.Judging.{After, Next, Ready, RowError, invalid-row, invalid-utf8, too-deep, too-many-entries, unexpected-key}
 use Rattle.rows.proofs.StackLaws.{opened-length, stands-value, stands-key, stands-open}
 use Rattle.encoder.proofs.MeasureLaws.{names-more, measure-plain}
 
@@ -37,27 +40,27 @@ module _ (text : List ℕ) (p : Progress) (r : Row) where
   abbrev x : Item
   x = itemAt text r
 
-  pub rule-9 : isBad text r ≡ true → first (rowRules text p r) ≡ some (failure 9 (p .row))
+  pub rule-9 : isBad text r ≡ true → first (rowRules text p r) ≡ some (failure InvalidRow (p .row))
   unfolding rowRules first rule pick
   rule-9 h = rw h
 
   module _ (fine : isBad text r ≡ false) where
-    pub rule-5 : keyAfterKey (p .place) (itemAt text r) ≡ true → first (rowRules text p r) ≡ some (failure 5 (p .row))
+    pub rule-5 : keyAfterKey (p .place) (itemAt text r) ≡ true → first (rowRules text p r) ≡ some (failure UnexpectedKey (p .row))
     unfolding rowRules first rule pick
     rule-5 h = rw (fine, h)
 
     module _ (keys : keyAfterKey (p .place) (itemAt text r) ≡ false) where
-      pub rule-6 : tooDeep (p .place) (itemAt text r) ≡ true → first (rowRules text p r) ≡ some (failure 6 (p .row))
+      pub rule-6 : tooDeep (p .place) (itemAt text r) ≡ true → first (rowRules text p r) ≡ some (failure TooDeep (p .row))
       unfolding rowRules first rule pick
       rule-6 h = rw (fine, keys, h)
 
       module _ (flat : tooDeep (p .place) (itemAt text r) ≡ false) where
-        pub rule-3 : isText (itemAt text r) && not (utf8 (itemAt text r .content)) ≡ true → first (rowRules text p r) ≡ some (failure 3 (p .row))
+        pub rule-3 : isText (itemAt text r) && not (utf8 (itemAt text r .content)) ≡ true → first (rowRules text p r) ≡ some (failure InvalidUtf8 (p .row))
         unfolding rowRules first rule pick
         rule-3 h = rw (fine, keys, flat, h)
 
         module _ (texts : isText (itemAt text r) && not (utf8 (itemAt text r .content)) ≡ false) where
-          pub rule-8 : 256 < length (noted (itemAt text r) (p .names)) → first (rowRules text p r) ≡ some (failure 8 (p .row))
+          pub rule-8 : 256 < length (noted (itemAt text r) (p .names)) → first (rowRules text p r) ≡ some (failure TooManyEntries (p .row))
           unfolding rowRules first rule pick withItem
           rule-8 h = rw (fine, keys, flat, texts, ltb-yes h)
 
@@ -65,32 +68,20 @@ module _ (text : List ℕ) (p : Progress) (r : Row) where
           unfolding rowRules first rule pick withItem
           rule-none h = rw (fine, keys, flat, texts, ltb-no h)
 
-pub error-9 : isRowError 9 ≡ true
-unfolding isRowError _||_
-error-9 = refl
-
-pub error-5 : isRowError 5 ≡ true
-unfolding isRowError _||_
-error-5 = refl
-
-pub error-6 : isRowError 6 ≡ true
-unfolding isRowError _||_
-error-6 = refl
-
-pub error-3 : isRowError 3 ≡ true
-unfolding isRowError _||_
-error-3 = refl
-
-pub error-8 : isRowError 8 ≡ true
-unfolding isRowError _||_
-error-8 = refl
-
 -- ---- one row more
 
+-- no error has number 0
+numbered : {e : Error} → RowError e → codeOf e ≡ 0 → ⊥
+numbered invalid-row z = omega arith
+numbered unexpected-key z = omega arith
+numbered too-deep z = omega arith
+numbered invalid-utf8 z = omega arith
+numbered too-many-entries z = omega arith
+
 module _ (text : List ℕ) (p : Progress) (r : Row) where
-  judged-bad : (n : ℕ) → first (rowRules text p r) ≡ some (failure n (p .row)) → (rest : List Row) → judge text p (r ∷ rest) ≡ fail n (p .row)
+  judged-bad : (e : Error) → first (rowRules text p r) ≡ some (failure e (p .row)) → (rest : List Row) → judge text p (r ∷ rest) ≡ fail e (p .row)
   unfolding judge then unless fail
-  judged-bad n e rest = rw e
+  judged-bad e q rest = rw q
 
   module _ (e : first (rowRules text p r) ≡ none) where
     judged-good : (rest : List Row) → judge text p (r ∷ rest) ≡ judge text (withItem p (itemAt text r)) rest
@@ -103,14 +94,14 @@ module _ (text : List ℕ) (p : Progress) (r : Row) where
 
 module _ {text es links st plan : List ℕ} {xs : List Row} {s : State} (a : After text es links st plan xs s) (r : Row) where
   -- it is refused, whatever became of the tables
-  pub refuse-next : {es′ links′ st′ plan′ : List ℕ} (n : ℕ) {t : State} → t ≡ refused s n → (n ≡ 0 → ⊥) → isRowError n ≡ true
-      → first (rowRules text (a .progress) r) ≡ some (failure n (a .progress .row)) → Next text es′ links′ st′ plan′ xs r s t
+  pub refuse-next : {es′ links′ st′ plan′ : List ℕ} {e : Error} (k : RowError e) {t : State} → t ≡ refused s (codeOf e)
+      → first (rowRules text (a .progress) r) ≡ some (failure e (a .progress .row)) → Next text es′ links′ st′ plan′ xs r s t
   unfolding refused
-  refuse-next n e nz known rules =
-      rw e
+  refuse-next {e = e} k q rules =
+      rw q
       (record {
-        taken = λ z. absurd (nz z);
-        refused = λ _. (refl, (known, λ rest. a .run (r ∷ rest) ∙ judged-bad text (a .progress) r n rules rest ∙ ap (fail n) (a .row)));
+        taken = λ z. absurd (numbered k z);
+        refused = λ _. (refl, λ rest. record { error = e; of-row = k; number = refl; is = a .run (r ∷ rest) ∙ judged-bad text (a .progress) r e rules rest ∙ ap (fail e) (a .row) });
       })
 
   -- it is taken

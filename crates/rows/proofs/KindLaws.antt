@@ -9,6 +9,7 @@ use native.Mathlib.Omega.{arith}
 use lib.Dec.{eqb, ltb}
 use lib.ListN.{length, length-append}
 use Rattle.format.specs.declared.row.Row.{Row}
+use Rattle.format.specs.declared.error.Error.the-variants.{InvalidUtf8, TooDeep, TooManyEntries, UnexpectedKey}
 use Rattle.format.specs.Choice.{_&&_, _||_}
 use Rattle.format.specs.Answer.{failure, first}
 use Rattle.format.specs.Header.{header}
@@ -53,10 +54,10 @@ module _ {text es links st plan : List ℕ} {xs : List Row} {s : State} (a : Aft
   flat : r .kind ≢ 8 → tooDeep (a .progress .place) (itemAt text r) ≡ false
   flat n = depth-is a r ∙ and-no-left _ (eqb-no n)
 
-  pub plain-deep : r .kind ≡ 8 → 32 ≤ s .depth → first (rowRules text (a .progress) r) ≡ some (failure 6 (a .progress .row))
+  pub plain-deep : r .kind ≡ 8 → 32 ≤ s .depth → first (rowRules text (a .progress) r) ≡ some (failure TooDeep (a .progress .row))
   plain-deep e d = rule-6 text (a .progress) r fine (no-keys a r lo) (depth-is a r ∙ and-yes (eqb-yes e) (leb-yes d))
 
-  pub plain-text : r .kind ≢ 8 → eqb (r .kind) 9 && not (utf8 (contentOf text r)) ≡ true → first (rowRules text (a .progress) r) ≡ some (failure 3 (a .progress .row))
+  pub plain-text : r .kind ≢ 8 → eqb (r .kind) 9 && not (utf8 (contentOf text r)) ≡ true → first (rowRules text (a .progress) r) ≡ some (failure InvalidUtf8 (a .progress .row))
   unfolding itemAt
   plain-text n e = rule-3 text (a .progress) r fine (no-keys a r lo) (flat n) (ap (λ b. b && not (utf8 (contentOf text r))) text-is ∙ e)
 
@@ -94,7 +95,7 @@ module _ {text es links st plan : List ℕ} {xs : List Row} {s : State} (a : Aft
   unfolding itemAt isName
   is-name = leb-yes name
 
-  pub name-again : eqb (s .keyed) 1 && eqb (r .kind) 11 ≡ true → first (rowRules text (a .progress) r) ≡ some (failure 5 (a .progress .row))
+  pub name-again : eqb (s .keyed) 1 && eqb (r .kind) 11 ≡ true → first (rowRules text (a .progress) r) ≡ some (failure UnexpectedKey (a .progress .row))
   name-again e = rule-5 text (a .progress) r fine (keys-are a r ∙ e)
 
   module _ (alone : eqb (s .keyed) 1 && eqb (r .kind) 11 ≡ false) where
@@ -105,7 +106,7 @@ module _ {text es links st plan : List ℕ} {xs : List Row} {s : State} (a : Aft
     unfolding itemAt isText
     name-text = leb-yes {a = 9} {b = r .kind} (omega arith)
 
-    pub name-invalid : not (utf8 (contentOf text r)) ≡ true → first (rowRules text (a .progress) r) ≡ some (failure 3 (a .progress .row))
+    pub name-invalid : not (utf8 (contentOf text r)) ≡ true → first (rowRules text (a .progress) r) ≡ some (failure InvalidUtf8 (a .progress .row))
     unfolding itemAt
     name-invalid u = rule-3 text (a .progress) r fine (keys-are a r ∙ alone) name-flat (and-yes name-text u)
 
@@ -123,7 +124,7 @@ module _ {text es links st plan : List ℕ} {xs : List Row} {s : State} (a : Aft
       more : length (noted (itemAt text r) (a .progress .names)) ≡ s .names + 1
       more = omega (arith, ap length (noted-fresh (itemAt text r) (a .progress .names) is-name (ap (index (itemAt text r)) (a .names) ∙ e)), length-append (a .progress .names) (itemAt text r ∷ []), names-count a r)
 
-      pub fresh-full : 256 ≤ s .names → first (rowRules text (a .progress) r) ≡ some (failure 8 (a .progress .row))
+      pub fresh-full : 256 ≤ s .names → first (rowRules text (a .progress) r) ≡ some (failure TooManyEntries (a .progress .row))
       fresh-full l = rule-8 text (a .progress) r fine (keys-are a r ∙ alone) name-flat (good-text u) (omega (arith, more))
 
       pub fresh-none : s .names < 256 → first (rowRules text (a .progress) r) ≡ none

@@ -1,13 +1,14 @@
 -- One row judged after others: what is known after those that were taken, and what one more comes to.
 use Prim.Native.Nat.{ℕ, _+_, _*_, _≤_, _<_}
 use mathlib.Core.Path.{_≡_}
-use mathlib.Core.Bool.{Bool, true, false}
+use mathlib.Core.Bool.{false}
 use mathlib.Core.List.{List, [], _∷_, _++_}
-use lib.Dec.{eqb}
 use lib.ListN.{length}
 use Rattle.format.specs.declared.row.Row.{Row}
-use Rattle.format.specs.Choice.{_||_}
-use Rattle.format.specs.Answer.{fail}
+use Rattle.format.specs.declared.error.Error.{Error}
+use Rattle.format.specs.declared.error.Error.the-variants.{InvalidRow, InvalidUtf8, TooDeep, TooManyEntries, UnexpectedKey}
+use Rattle.format.specs.Error.{codeOf}
+use Rattle.format.specs.Answer.{Answer, fail}
 use Rattle.format.specs.Names.{namesFrom}
 use Rattle.format.specs.WellFormed.{All}
 use Rattle.format.specs.Rows.{itemsAt}
@@ -17,8 +18,19 @@ use Rattle.rows.specs.Stack.{bottom, Stands}
 use Rattle.encoder.specs.Plan.{Measured}
 
 -- The errors that a row by itself can be refused with.
-unfoldable pub isRowError : ℕ → Bool
-isRowError n = eqb n 9 || eqb n 5 || eqb n 6 || eqb n 3 || eqb n 8
+pub data RowError : Error → Type 0 where
+  invalid-row : RowError InvalidRow
+  unexpected-key : RowError UnexpectedKey
+  too-deep : RowError TooDeep
+  invalid-utf8 : RowError InvalidUtf8
+  too-many-entries : RowError TooManyEntries
+
+-- Rows are refused with an error, at the row of a state that has its number.
+pub record RefusedAs (judgement : Answer Progress) (s : State) : Type 0 where
+  pub error : Error
+  pub of-row : RowError error
+  pub number : codeOf error ≡ s .error
+  pub is : judgement ≡ fail error (s .row)
 
 -- The rows xs were taken, and s is the state after them.
 pub record After (text es links st plan : List ℕ) (xs : List Row) (s : State) : Type 0 where
@@ -45,4 +57,4 @@ pub record Ready (text st : List ℕ) (s : State) : Type 0 where
 -- One row more: taken, or refused.
 pub record Next (text es links st plan : List ℕ) (xs : List Row) (r : Row) (s t : State) : Type 0 where
   pub taken : t .error ≡ 0 → After text es links st plan (xs ++ (r ∷ [])) t × ((t .row ≡ s .row + 1) × (t .end ≡ s .end))
-  pub refused : (t .error ≡ 0 → ⊥) → (t .end ≡ t .row) × ((isRowError (t .error) ≡ true) × ((rest : List Row) → judge text begin (xs ++ (r ∷ rest)) ≡ fail (t .error) (t .row)))
+  pub refused : (t .error ≡ 0 → ⊥) → (t .end ≡ t .row) × ((rest : List Row) → RefusedAs (judge text begin (xs ++ (r ∷ rest))) t)

@@ -4,6 +4,7 @@ use Prim.Native.Nat.{ℕ, _-_, _≤_}
 use native.Mathlib.Omega.{arith}
 use mathlib.Core.List.{List}
 use lib.ListN.{length, take, drop}
+use Rattle.format.specs.Error.{codeOf}
 use Rattle.format.specs.Answer.{Answer, failed, good, then}
 use Rattle.format.specs.Joining.{canonicalizing}
 use Rattle.format.specs.Limits.{max-bytes}
@@ -40,7 +41,7 @@ inside Tidy k bs = omega (arith, tidied-used (sizeIn (opening bs)) (tidy.tidied 
 
 printed-short : (k : ℕ) (a : Answer (List ℕ)) → length (listing.printed k a) ≤ max-text
 unfolding listing.printed
-printed-short k (failed f) = envelope-short k (f .code)
+printed-short k (failed f) = envelope-short k (codeOf (f .error))
 printed-short k (good bs) = text-short bs k
 
 tidied-good : (a : Answer (List ℕ)) {e : List ℕ} → tidy.tidied a ≡ good e → length e ≤ max-envelope

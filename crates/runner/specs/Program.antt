@@ -1,7 +1,5 @@
 -- The two programs, by what they make of one envelope, and the buffer for what they make.
 use Prim.Native.Nat.{ℕ, _+_}
-use Rattle.format.specs.Envelope.{max-envelope}
-use Rattle.envelope.specs.Answers.{bundleIn as bytesIn, sizeIn}
 use Rattle.stream.specs.Window.{input-capacity}
 use Rattle.stream.specs.Run.{Filter}
 use Rattle.listed.specs.Text.{max-text}
@@ -11,9 +9,8 @@ use Rattle.runner.specs.declared.program.Program.{Program}
 use Rattle.runner.specs.declared.program.Program.the-variants.{Listing, Tidy}
 
 unfoldable pub filterOf : Program → Filter
-filterOf Listing = record { output = listing.printed; step = listing.stepOf; most = max-text }
-filterOf Tidy =
-    record { output = λ k opened. bytesIn (tidy.tidied opened); step = λ k opened. tidy.stepOf (sizeIn opened) (tidy.tidied opened); most = max-envelope }
+filterOf Listing = listing.filter
+filterOf Tidy = tidy.filter
 
 -- How long the output's buffer is: `Output::CAPACITY`.
 abbrev pub output-capacity : ℕ

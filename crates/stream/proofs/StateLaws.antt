@@ -8,11 +8,9 @@ use lib.ListN.{length}
 use Rattle.format.specs.Choice.{pick}
 use Rattle.format.proofs.Tests.{eqb-no, eqb-yes}
 use Rattle.stream.specs.declared.input.Window.{Window}
-use Rattle.stream.specs.declared.state.Refusal.{Refusal}
 use Rattle.stream.specs.declared.state.Stream.{Stream}
-use Rattle.stream.specs.declared.state.Step.{Step}
 use Rattle.stream.specs.Window.{Within}
-use Rattle.stream.specs.State.{Flushes, Refills, emptied, movedOn, noted}
+use Rattle.stream.specs.State.{Flushes, Refills, emptied, movedOn}
 use Rattle.stream.proofs.WindowLaws.{stayed}
 
 -- ---- after an envelope
@@ -25,20 +23,6 @@ module _ (w : Window) {used : ℕ} where
   pub goes-on : used ≢ 0 → movedOn w used ≡ record { start = w .start + used; end = w .end; ended = w .ended }
   unfolding movedOn pick
   goes-on z = rw (eqb-no z)
-
-module _ (r : Refusal) (k : ℕ) (step : Step) where
-  -- one was refused before
-  pub noted-before : r .error ≢ 0 → noted r k step ≡ r
-  unfolding noted pick
-  noted-before z = rw (eqb-no z)
-
-  pub noted-none : r .error ≡ 0 → step .error ≡ 0 → noted r k step ≡ r
-  unfolding noted pick
-  noted-none z y = rw (eqb-yes z, eqb-yes y)
-
-  pub noted-first : r .error ≡ 0 → step .error ≢ 0 → noted r k step ≡ record { envelope = k; error = step .error; place = step .place }
-  unfolding noted pick
-  noted-first z y = rw (eqb-yes z, eqb-no y)
 
 -- ---- after writing and reading
 

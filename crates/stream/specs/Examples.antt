@@ -2,13 +2,15 @@
 use mathlib.Core.Path.{_≡_, refl}
 use mathlib.Core.List.{[], _∷_}
 use lib.ListN.{length}
+use Rattle.format.specs.declared.error.Error.the-variants.{InvalidEnvelope}
 use Rattle.format.specs.Choice.{pick, _||_}
 use Rattle.format.specs.Limits.{max-bytes}
-use Rattle.format.specs.Answer.{errorIn, fail, placeIn}
+use Rattle.format.specs.Answer.{fail, failure, outcomeOf}
 use Rattle.format.specs.Header.{bigEndian}
 use Rattle.format.specs.Envelope.{opening}
 use Rattle.envelope.specs.Answers.{bundleIn, sizeIn}
-use Rattle.stream.specs.State.{first, none, noted}
+use Rattle.stream.specs.declared.state.Refusal.the-variants.{First, None}
+use Rattle.stream.specs.State.{first, noted}
 use Rattle.stream.specs.Run.{Filter}
 use Rattle.stream.specs.Whole.{processed, processedIn, tally}
 
@@ -17,7 +19,7 @@ abbrev bundles : Filter
 bundles =
     record {
       output = λ k opened. bundleIn opened;
-      step = λ k opened. record { used = sizeIn opened; written = length (bundleIn opened); error = errorIn opened; place = placeIn opened };
+      step = λ k opened. record { used = sizeIn opened; written = length (bundleIn opened); outcome = outcomeOf opened };
       most = max-bytes;
     }
 
@@ -25,11 +27,11 @@ abbrev Processed : Type 0
 Processed =
     -- two good envelopes, the second of the empty bundle
     (processed bundles (tally first []) (0 ∷ 3 ∷ 1 ∷ 0x25 ∷ 0x23 ∷ 0 ∷ 1 ∷ 1 ∷ [])
-    ≡ record { count = 2; refusal = none; written = 0x25 ∷ 0x23 ∷ [] })
+    ≡ record { count = 2; refusal = None; written = 0x25 ∷ 0x23 ∷ [] })
     -- a length of 0 after the first: the envelope behind it is not looked at
     × (processed bundles (tally first []) (0 ∷ 2 ∷ 1 ∷ 0x25 ∷ 0 ∷ 0 ∷ 0 ∷ 2 ∷ 1 ∷ 0x23 ∷ [])
-    ≡ record { count = 2; refusal = record { envelope = 2; error = 12; place = 0 }; written = 0x25 ∷ [] })
+    ≡ record { count = 2; refusal = First 2 (failure InvalidEnvelope 0); written = 0x25 ∷ [] })
 
 pub examples : Processed
-unfolding pick _||_ fail bigEndian opening bundleIn sizeIn errorIn placeIn noted processedIn processed
+unfolding pick _||_ fail bigEndian opening bundleIn sizeIn outcomeOf noted processedIn processed
 examples = (refl, refl)

@@ -5,10 +5,13 @@ use mathlib.Core.Bool.{Bool, true, false}
 use mathlib.Core.List.{List}
 use lib.ListN.{length}
 use lib.Dec.{eqb}
+use Rattle.format.specs.declared.outcome.Outcome.{Outcome}
+use Rattle.format.specs.declared.outcome.Outcome.the-variants.{Failed, Good}
 use Rattle.format.specs.Choice.{pick}
 use Rattle.envelope.specs.Answers.{missingFrom}
 use Rattle.stream.specs.declared.input.Window.{Window}
 use Rattle.stream.specs.declared.state.Refusal.{Refusal}
+use Rattle.stream.specs.declared.state.Refusal.the-variants.{First, None}
 use Rattle.stream.specs.declared.state.Stream.{Stream}
 use Rattle.stream.specs.declared.state.Step.{Step}
 use Rattle.stream.specs.declared.state.Action.{Action}
@@ -21,13 +24,9 @@ use Rattle.stream.specs.Window.{Pulls, Within, unread}
 abbrev pub fresh : Window
 fresh = record { start = 0; end = 0; ended = false }
 
--- None was refused.
-abbrev pub none : Refusal
-none = record { envelope = 0; error = 0; place = 0 }
-
 -- Before the first envelope.
 abbrev pub first : Stream
-first = record { window = fresh; filled = 0; count = 0; refusal = none; stopped = false; failed = false; done = false }
+first = record { window = fresh; filled = 0; count = 0; refusal = None; stopped = false; failed = false; done = false }
 
 -- Before an input, after those that are done with.
 abbrev pub begun : Stream → Stream
@@ -61,9 +60,10 @@ movedOn w used =
     (record { start = w .start + used; end = w .end; ended = w .ended })
 
 -- The first refusal: that of envelope k only where there was none before.
-unfoldable pub noted : Refusal → ℕ → Step → Refusal
-noted r k step =
-    pick (eqb (r .error) 0) (pick (eqb (step .error) 0) r (record { envelope = k; error = step .error; place = step .place })) r
+unfoldable pub noted : Refusal → ℕ → Outcome → Refusal
+noted (First j f) k outcome = First j f
+noted None k Good = None
+noted None k (Failed f) = First k f
 
 abbrev pub advanced : Stream → Step → Stream
 advanced s step =
@@ -71,7 +71,7 @@ advanced s step =
       window = movedOn (s .window) (step .used);
       filled = s .filled + step .written;
       count = numbered (s .count);
-      refusal = noted (s .refusal) (numbered (s .count)) step;
+      refusal = noted (s .refusal) (numbered (s .count)) (step .outcome);
       stopped = eqb (step .used) 0;
       failed = s .failed;
       done = s .done;

@@ -21,7 +21,7 @@ pub record Tally : Type 0 where
 abbrev pub added : Filter → Tally → Answer (List ℕ) → Tally
 added p t opened =
     let k = numbered (t .count) in
-    record { count = k; refusal = noted (t .refusal) k (p .step k opened); written = t .written ++ p .output k opened }
+    record { count = k; refusal = noted (t .refusal) k (p .step k opened .outcome); written = t .written ++ p .output k opened }
 
 -- The envelopes of an input, so many at most: each begins behind the one before; one that takes nothing is the last.
 unfoldable pub processedIn : ℕ → Filter → Tally → List ℕ → Tally

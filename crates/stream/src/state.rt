@@ -8,12 +8,13 @@ ghost use Rattle.stream.specs.State.{Finishes, Flushes, Ready, Refills, 
 use crate::input::Window;
 use crate::input::pull;
 use crate::output::put;
+use format::Failure;
+use format::Outcome;
 
-// The first envelope that was refused: its number, the error's number and place. The error is 0 where there is none.
-pub struct Refusal {
-    pub envelope: u64,
-    pub error: u8,
-    pub place: usize,
+// The first envelope that was refused, by its number, and why.
+pub enum Refusal {
+    None,
+    First(u64, Failure),
 }
 
 // The window over the input, how many bytes of the output wait in their buffer, how many envelopes were taken, the
@@ -47,11 +48,7 @@ impl Stream {
             window: Window::new(),
             filled: 0,
             count: 0,
-            refusal: Refusal {
-                envelope: 0,
-                error: 0,
-                place: 0,
-            },
+            refusal: Refusal::None,
             stopped: false,
             failed: false,
             done: false,
@@ -59,13 +56,12 @@ impl Stream {
     }
 }
 
-// What one envelope took of the input, how many bytes were written for it, and its error's number and place, 0 and 0
-// where there is none. One that stops the run takes nothing.
+// What one envelope took of the input, how many bytes were written for it, and what became of it. One that stops the
+// run takes nothing.
 pub struct Step {
     pub used: usize,
     pub written: usize,
-    pub error: u8,
-    pub place: usize,
+    pub outcome: Outcome,
 }
 
 // What is to be done next: read, take the next envelope, or end.
@@ -131,19 +127,15 @@ fn moved_on(window: Window, used: usize) -> Window
 }
 
 // The first refusal, after envelope k.
-fn note(refusal: Refusal, k: u64, step: Step) -> Refusal
-    ensures { λ r. ⌜ r ≡ noted refusal k step ⌝ }
+fn note(refusal: Refusal, k: u64, outcome: Outcome) -> Refusal
+    ensures { λ r. ⌜ r ≡ noted refusal k outcome ⌝ }
 {
-    if refusal.error != 0 {
-        return refusal;
-    }
-    if step.error == 0 {
-        return refusal;
-    }
-    Refusal {
-        envelope: k,
-        error: step.error,
-        place: step.place,
+    match refusal {
+        Refusal::First(_, _) => refusal,
+        Refusal::None => match outcome {
+            Outcome::Good => refusal,
+            Outcome::Failed(f) => Refusal::First(k, f),
+        },
     }
 }
 
@@ -155,7 +147,9 @@ pub fn advance(s: Stream, step: Step) -> Stream
     // No run comes to so many envelopes that the sum wraps.
     let count = std::num::wrapping_add_u64(s.count, 1);
     let window = moved_on(s.window, step.used);
-    let refusal = note(s.refusal, count, step);
+    let before = s.refusal;
+    let outcome = step.outcome;
+    let refusal = note(before, count, outcome);
     Stream {
         window,
         filled: s.filled + step.written,

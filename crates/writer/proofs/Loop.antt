@@ -9,7 +9,7 @@ use lib.Seq.{take-suc, take-take}
 use Rattle.format.specs.declared.row.Row.{Row}
 use Rattle.format.specs.Names.{namesFrom}
 use Rattle.format.specs.Place.{top}
-use Rattle.format.specs.Writing.{begin, judge}
+use Rattle.format.specs.Writing.{begin}
 use Rattle.format.proofs.Tests.{equal}
 use Rattle.symbols.specs.Chains.{Chained}
 use Rattle.encoder.proofs.MeasureLaws.{measured-none}
@@ -98,7 +98,7 @@ module _ (text : List ℕ) (rs : List Row) (n : ℕ) where
                   let (b, (i, m)) = next .taken e in
                   let one : take (t .row) rs ≡ xs ++ (r ∷ []) = ap (λ (k : ℕ). take k rs) (i ∙ add-one (s .row)) ∙ up-to in
                   (m ∙ end, (omega arith, subst (λ (zs : List Row). After text es′ links′ st′ plan′ zs t) (sym one) b));
-              stopped = λ h. let (m, (k, f)) = next .refused h in (m, (k, ap (judge text begin) (sym whole) ∙ f rest));
+              stopped = λ h. let (m, f) = next .refused h in (m, rw (← whole) (f rest));
             },
             equal (t .error) 0 (λ e. let (b, (i, m)) = next .taken e in omega arith) (λ h. omega (arith, next .refused h .0)),
           )

@@ -10,6 +10,9 @@ use lib.Dec.{eqb, ltb}
 use lib.ListN.{length, take}
 use lib.Seq.{take-length}
 use Rattle.format.specs.declared.row.Row.{Row}
+use Rattle.format.specs.declared.error.Error.{Error}
+use Rattle.format.specs.declared.error.Error.the-variants.{OutputTooLong, TooLong, TooManyEntries, TooManyRows, Truncated}
+use Rattle.format.specs.Error.{codeOf}
 use Rattle.format.specs.Choice.{_||_, pick}
 use Rattle.format.specs.Limits.{max-bytes, max-rows}
 use Rattle.format.specs.Answer.{Answer, counted, fail, failed, good, stored, then}
@@ -18,14 +21,14 @@ use Rattle.format.specs.Place.{due}
 use Rattle.format.specs.Canonical.{canonical, canonicalFrom}
 use Rattle.format.specs.Rows.{itemsAt}
 use Rattle.format.specs.Writing.{Progress, begin, fitted, judge, writing}
-use Rattle.format.proofs.Tests.{cases, eqb-no, eqb-true, equal, failed-good, good-inj, ltb-no, ltb-yes, none-some, or-no, order, pick-no, pick-yes}
+use Rattle.format.proofs.Tests.{cases, equal, failed-good, good-inj, leb-true, ltb-false, ltb-no, ltb-yes, none-some, or-no, order, pick-no, pick-yes}
 use Rattle.format.proofs.Steps.{then-good}
 use Rattle.format.proofs.Fitting.{fitted-fits, fitted-good, fitted-over}
 use Rattle.rows.specs.declared.state.State.{State}
 use Rattle.format.specs.declared.written.Written.{Written}
 use Rattle.encoder.specs.Plan.{Measured}
 use Rattle.writer.specs.Putting.{Putting}
-use Rattle.rows.specs.Judging.{isRowError}
+use Rattle.rows.specs.Judging.{RowError, invalid-row, invalid-utf8, too-deep, too-many-entries, unexpected-key}
 use Rattle.writer.specs.Verdict.{Passed, Verdict}
 use Rattle.rows.proofs.StackLaws.{opened-length}
 use Rattle.symbols.proofs.ChainLaws.{length-names}
@@ -56,9 +59,12 @@ judge-asks rs text plan n e long =
 -- ---- the error of a row
 
 -- the last of them, where it is none of the others
-pub last-error : (n : ℕ) → n ≢ 9 → n ≢ 5 → n ≢ 6 → n ≢ 3 → isRowError n ≡ true → 8 ≡ n
-unfolding isRowError _||_
-last-error n a b c d e = sym (eqb-true n 8 (rw (eqb-no a, eqb-no b, eqb-no c, eqb-no d) at e))
+pub last-error : {n : ℕ} → n ≢ 9 → n ≢ 5 → n ≢ 6 → n ≢ 3 → {e : Error} → RowError e → codeOf e ≡ n → TooManyEntries ≡ e
+last-error a b c d invalid-row q = absurd (a (sym q))
+last-error a b c d unexpected-key q = absurd (b (sym q))
+last-error a b c d too-deep q = absurd (c (sym q))
+last-error a b c d invalid-utf8 q = absurd (d (sym q))
+last-error a b c d too-many-entries q = refl
 
 -- ---- writing, case by case
 
@@ -71,7 +77,7 @@ module _ {text plan : List ℕ} {rs : List Row} {s : State} (g : Passed text pla
   unfolding due
   passed-due = rw (g .after .stands .key, g .after .stands .opened, opened-length (g .st) (s .depth) (s .left))
 
-  passed-ends : judge text begin rs ≡ pick (dueIn s) (fail 2 (s .row)) (good (g .after .progress))
+  passed-ends : judge text begin rs ≡ pick (dueIn s) (fail Truncated (s .row)) (good (g .after .progress))
   unfolding judge
   passed-ends = rw (append-nil rs) at (g .after .run []) ∙ rw (passed-due, g .after .row)
 
@@ -82,11 +88,11 @@ module _ {text plan : List ℕ} {rs : List Row} {s : State} (g : Passed text pla
   few-names = let m = measured in omega (arith, ap length (m .names), length-names (m .table .table), m .table .table .few)
 
 module _ (rs : List Row) (text : List ℕ) (capacity : ℕ) where
-  writing-rows : max-rows < length rs → writing rs text capacity ≡ fail 7 0
+  writing-rows : max-rows < length rs → writing rs text capacity ≡ fail TooManyRows 0
   unfolding writing
   writing-rows l = pick-yes _ _ (ltb-yes l)
 
-  writing-text : length rs ≤ max-rows → max-bytes < length text → writing rs text capacity ≡ fail 1 0
+  writing-text : length rs ≤ max-rows → max-bytes < length text → writing rs text capacity ≡ fail TooLong 0
   unfolding writing
   writing-text l m = pick-no _ _ (ltb-no l) ∙ pick-yes _ _ (ltb-yes m)
 
@@ -95,13 +101,13 @@ module _ (rs : List Row) (text : List ℕ) (capacity : ℕ) where
     unfolding writing
     writing-judged = pick-no _ _ (ltb-no few) ∙ pick-no _ _ (ltb-no short)
 
-    writing-refused : (k p : ℕ) → judge text begin rs ≡ fail k p → writing rs text capacity ≡ fail k p
+    writing-refused : (k : Error) (p : ℕ) → judge text begin rs ≡ fail k p → writing rs text capacity ≡ fail k p
     unfolding then fail
     writing-refused k p e = writing-judged ∙ rw e
 
     module _ {plan : List ℕ} {s : State} (g : Passed text plan rs s) where
-      writing-due : dueIn s ≡ true → writing rs text capacity ≡ fail 2 (s .row)
-      writing-due d = writing-refused 2 (s .row) (passed-ends g ∙ pick-yes _ _ d)
+      writing-due : dueIn s ≡ true → writing rs text capacity ≡ fail Truncated (s .row)
+      writing-due d = writing-refused Truncated (s .row) (passed-ends g ∙ pick-yes _ _ d)
 
       writing-fitted : dueIn s ≡ false → writing rs text capacity ≡ fitted capacity (canonical (itemsAt text rs))
       unfolding then
@@ -109,27 +115,30 @@ module _ (rs : List Row) (text : List ℕ) (capacity : ℕ) where
 
 -- ---- the answer of `decide`
 
-answers-fail : (rs : List Row) (text : List ℕ) (capacity k p : ℕ) → writing rs text capacity ≡ fail k p → fail k p ≡ counted (writing rs text capacity)
+answers-fail : (rs : List Row) (text : List ℕ) (capacity : ℕ) (k : Error) (p : ℕ) → writing rs text capacity ≡ fail k p → fail k p ≡ counted (writing rs text capacity)
 unfolding counted then fail
 answers-fail rs text capacity k p e = rw e
 
 module _ (rs : List Row) (bs plan : List ℕ) (rows text capacity : ℕ) (s : State) (er : length rs ≡ rows) (eb : length bs ≡ text) (v : Verdict bs plan (take (limitOf rows text) rs) s) where
-  pub answer-rows : max-rows < rows → fail 7 0 ≡ counted (writing rs bs capacity)
-  answer-rows l = answers-fail rs bs capacity 7 0 (writing-rows rs bs capacity (rw er l))
+  pub answer-rows : max-rows < rows → fail TooManyRows 0 ≡ counted (writing rs bs capacity)
+  answer-rows l = answers-fail rs bs capacity TooManyRows 0 (writing-rows rs bs capacity (rw er l))
 
-  pub answer-text : rows ≤ max-rows → max-bytes < text → fail 1 0 ≡ counted (writing rs bs capacity)
-  answer-text l m = answers-fail rs bs capacity 1 0 (writing-text rs bs capacity (rw er l) (rw eb m))
+  pub answer-text : rows ≤ max-rows → max-bytes < text → fail TooLong 0 ≡ counted (writing rs bs capacity)
+  answer-text l m = answers-fail rs bs capacity TooLong 0 (writing-text rs bs capacity (rw er l) (rw eb m))
 
   module _ (few : rows ≤ max-rows) (short : text ≤ max-bytes) where
     all-judged : Verdict bs plan rs s
     all-judged = rw (limit-all few short, ← er, take-length rs) at v
 
-    pub answer-refused : (k : ℕ) → s .error ≢ 0 → (isRowError (s .error) ≡ true → k ≡ s .error) → fail k (s .row) ≡ counted (writing rs bs capacity)
-    answer-refused k n h = let (e, j) = all-judged .refused n in rw (h e) (answers-fail rs bs capacity (s .error) (s .row) (writing-refused rs bs capacity (rw er few) (rw eb short) (s .error) (s .row) j))
+    pub answer-refused : (k : Error) → s .error ≢ 0 → ((e : Error) → RowError e → codeOf e ≡ s .error → k ≡ e) → fail k (s .row) ≡ counted (writing rs bs capacity)
+    answer-refused k n h =
+        let f = all-judged .refused n in
+        let e = f .error in
+        rw (h e (f .of-row) (f .number)) (answers-fail rs bs capacity e (s .row) (writing-refused rs bs capacity (rw er few) (rw eb short) e (s .row) (f .is)))
 
     module _ (fine : s .error ≡ 0) where
-      pub answer-due : dueIn s ≡ true → fail 2 (s .row) ≡ counted (writing rs bs capacity)
-      answer-due d = answers-fail rs bs capacity 2 (s .row) (writing-due rs bs capacity (rw er few) (rw eb short) (all-judged .passed fine) d)
+      pub answer-due : dueIn s ≡ true → fail Truncated (s .row) ≡ counted (writing rs bs capacity)
+      answer-due d = answers-fail rs bs capacity Truncated (s .row) (writing-due rs bs capacity (rw er few) (rw eb short) (all-judged .passed fine) d)
 
       fits-in : dueIn s ≡ false → writing rs bs capacity ≡ fitted capacity (canonical (itemsAt bs rs))
       fits-in d = writing-fitted rs bs capacity (rw er few) (rw eb short) (all-judged .passed fine) d
@@ -137,12 +146,15 @@ module _ (rs : List Row) (bs plan : List ℕ) (rows text capacity : ℕ) (s : St
       size-is : s .size ≡ length (canonical (itemsAt bs rs))
       size-is = measured (all-judged .passed fine) .length-is
 
-      pub answer-over : dueIn s ≡ false → min max-bytes capacity < s .size → fail 10 0 ≡ counted (writing rs bs capacity)
-      answer-over d l = answers-fail rs bs capacity 10 0 (fits-in d ∙ fitted-over capacity (canonical (itemsAt bs rs)) (rw (← size-is) l))
+      abbrev isOver : Bool
+      isOver = ltb (min max-bytes capacity) (s .size)
 
-      pub answer-good : dueIn s ≡ false → s .size ≤ min max-bytes capacity → good (s .size) ≡ counted (writing rs bs capacity)
+      pub answer-over : dueIn s ≡ false → isOver ≡ true → fail OutputTooLong 0 ≡ counted (writing rs bs capacity)
+      answer-over d l = answers-fail rs bs capacity OutputTooLong 0 (fits-in d ∙ fitted-over capacity (canonical (itemsAt bs rs)) (rw (← size-is) (leb-true _ _ l)))
+
+      pub answer-good : dueIn s ≡ false → isOver ≡ false → good (s .size) ≡ counted (writing rs bs capacity)
       unfolding counted then
-      answer-good d l = rw (fits-in d ∙ fitted-fits capacity (canonical (itemsAt bs rs)) (rw (← size-is) l), size-is)
+      answer-good d l = rw (fits-in d ∙ fitted-fits capacity (canonical (itemsAt bs rs)) (rw (← size-is) (ltb-false _ _ l)), size-is)
 
 -- ---- the rows that are written
 
@@ -154,7 +166,7 @@ judged-good text plan rs s u v j =
     (λ z.
     let g = v .passed z in
     cases (dueIn s) (λ d. failed-good (sym (passed-ends g ∙ pick-yes _ _ d) ∙ j)) (λ d. (g, ap (λ (t : Progress). t .items) (sym (good-inj (sym (passed-ends g ∙ pick-no _ _ d) ∙ j))) ∙ g .after .items)))
-    (λ z. failed-good (sym (v .refused z .1) ∙ j))
+    (λ z. failed-good (sym (v .refused z .is) ∙ j))
 
 -- all rows can be written as they were planned, or none
 putting-all : {text plan : List ℕ} {rs : List Row} {s : State} (g : Passed text plan rs s) (capacity : ℕ) → length text ≤ max-bytes → length (canonical (itemsAt text rs)) ≤ capacity → Putting text plan rs capacity

@@ -2,4 +2,3 @@
 pub mod Verdict
 pub mod Putting
 pub mod Extent
-pub mod Promises

@@ -1,22 +1,22 @@
 // Writing rows over a text: judged first, then written.
 ghost use mathlib.Core.Path.{_≡_};
-ghost use mathlib.Core.Bool.{true};
 ghost use mathlib.Core.List.{List};
 ghost use Prim.Native.Nat.{ℕ};
 ghost use lib.Dec.{eqb, ltb};
 ghost use lib.ListN.{length, take};
 ghost use Rattle.format.specs.declared.row.Row.{Row};
+ghost use Rattle.format.specs.declared.error.Error.{Error};
 ghost use Rattle.format.specs.Choice.{_||_};
 ghost use Rattle.format.specs.Answer.{counted};
 ghost use Rattle.format.specs.Error.{codeOf};
 ghost use Rattle.format.specs.Writing.{writing};
-ghost use Rattle.format.specs.Written.{answerOf};
-ghost use Rattle.rows.specs.Judging.{isRowError};
+ghost use Rattle.format.specs.Written.{Writes, answerOf};
+ghost use Rattle.rows.specs.Judging.{RowError};
 ghost use Rattle.writer.specs.Verdict.{Verdict};
 ghost use Rattle.writer.specs.Extent.{limitOf, rowsIn};
-ghost use Rattle.writer.specs.Promises.{Wrote};
 use crate::judging::judge;
 use crate::putting::put;
+use encoder::fitting::is_over;
 use format::Bundle;
 use format::Error;
 use format::Row;
@@ -39,7 +39,7 @@ fn limit(count: usize, len: usize) -> usize
 
 // The error of a row, by its number.
 fn error_of(code: usize) -> Error
-    ensures { λ r. ⌜ (isRowError code ≡ true → codeOf r ≡ code) ⌝ }
+    ensures { λ r. ⌜ ((e : Error) → RowError e → codeOf e ≡ code → r ≡ e) ⌝ }
 {
     match code {
         9 => Error::InvalidRow,
@@ -65,22 +65,19 @@ fn decide(rows: usize, text: usize, capacity: usize, s: State) -> Written
     ensures { λ r. ⌜ ((rs : List Row) (bs plan : List ℕ) → length rs ≡ rows → length bs ≡ text → Verdict bs plan (take (limitOf rows text) rs) s → answerOf r ≡ counted (writing rs bs capacity)) ⌝ }
 {
     if Row::MAX_COUNT < rows {
-        return Written::Failed(Error::TooManyRows, 0);
+        return Written::fail(Error::TooManyRows, 0);
     }
     if Bundle::MAX_BYTES < text {
-        return Written::Failed(Error::TooLong, 0);
+        return Written::fail(Error::TooLong, 0);
     }
     if s.error != 0 {
-        return Written::Failed(error_of(s.error), s.row);
+        return Written::fail(error_of(s.error), s.row);
     }
     if is_due(s) {
-        return Written::Failed(Error::Truncated, s.row);
+        return Written::fail(Error::Truncated, s.row);
     }
-    if Bundle::MAX_BYTES < s.size {
-        return Written::Failed(Error::OutputTooLong, 0);
-    }
-    if capacity < s.size {
-        return Written::Failed(Error::OutputTooLong, 0);
+    if is_over(s.size, capacity) {
+        return Written::fail(Error::OutputTooLong, 0);
     }
     Written::Done(s.size)
 }
@@ -91,13 +88,13 @@ fn count_of(answer: Written, n: usize) -> usize
 {
     match answer {
         Written::Done(_) => n,
-        Written::Failed(_, _) => 0,
+        Written::Failed(_) => 0,
     }
 }
 
 // Writes the canonical encoding of rows over a text; on an error no byte is changed.
 pub fn write(rows: &[Row], text: &[u8], out: &mut [u8]) -> Written
-    ensures { λ r. ⌜ Wrote (now (rows .entry)) (now (text .entry)) (now (out .entry)) r (now (out .exit)) ⌝ }
+    ensures { λ r. ⌜ Writes (writing (now (rows .entry)) (now (text .entry)) (length (now (out .entry)))) (now (out .entry)) r (now (out .exit)) ⌝ }
 {
     let mut plan = [0u16; Plan::SIZE];
     let n = limit(rows.len(), text.len());

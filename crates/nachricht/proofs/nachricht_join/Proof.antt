@@ -8,14 +8,14 @@ use Rattle.nachricht.proofs.nachricht_join.Tie as tie
 join-requires : tie.Need-join-requires
 join-requires c κs = search needs
 
-joined-of-requires : tie.Need-joined-of-requires
-joined-of-requires c κs = search needs
+written-of-requires : tie.Need-written-of-requires
+written-of-requires c κs = search needs
 
 same-length : tie.Need-same-length
 same-length c = search needs
 
 returns : tie.Need-returns
-returns c = (c .joined-of .ensures ∙ ap countAnswer (c .before .before .before .join .ensures .answer), c .before .before .before .join .ensures .buffer)
+returns c = (c .written-of .ensures ∙ ap countAnswer (c .before .before .before .join .ensures .answer), c .before .before .before .join .ensures .buffer)
 
 pub nachricht-join-spec : {M : Type 1} → statement M
-nachricht-join-spec = tie.close (tie.spec join-requires joined-of-requires same-length returns)
+nachricht-join-spec = tie.close (tie.spec join-requires written-of-requires same-length returns)

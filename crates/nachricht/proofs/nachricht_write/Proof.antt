@@ -44,7 +44,8 @@ use Rattle.format.proofs.row.Row as T
 use Rattle.format.proofs.WalkCall.{says-both, asks-one, calls-plain}
 use Rattle.format.specs.declared.written.Written.{Written}
 use Rattle.format.specs.Written.{answerOf}
-use Rattle.writer.specs.Promises.{Wrote}
+use Rattle.format.specs.Written.{Writes}
+use Rattle.format.specs.Writing.{writing}
 use Rattle.format.proofs.written.Written as N
 use Rattle.format.proofs.written.Written.Laws as N′
 use Rattle.writer.proofs.write as write
@@ -147,8 +148,8 @@ module _ {M : Type 1} (𝓤 : URA M) (H : Heap 𝓤) (A : Atoms 𝓤) (W : Given
         calls-at ! fm (Write 𝓤 H A mem run) known-write to (and-then ! (load ! (from ! (stop !)) (look ! 14 refl)) (and-then ! (load ! (from ! (stop !)) (look ! 12 refl)) (and-then ! (load ! (from ! (stop !)) (look ! 4 refl)) (no-more !)))) (λ u.
         use1 W (later (some (λ (r : Written). (Tokens ⊛ ‵ (N.the-row .own r (u ∷ []))) ⊛ raw (ensured 𝓤 H A write.ended (write.clauses 𝓤 H A mem run) (κ, (κ′, (κ″, tt))) (rx, (tx, (ox, tt))) tt r)))) (id⊢ 𝓤 _) $ await ! tt $ pick ! (λ r.
         split ! $ move ! (1 ∷ []) $ use1 W (some (λ (ws : Unit {0} × (Unit {0} × (List ℕ × Unit {0}))). ‵ (lasts write.ended (κ, (κ′, (κ″, tt))) (rx, (tx, (ox, tt))) ws)
-        ⊛ raw (fact 𝓤 (Wrote (rx .now) (tx .now) old r (ws .1 .1 .0))))) (id⊢ 𝓤 _) $ pick ! (λ ws.
-        split ! $ move ! (1 ∷ []) $ heard ! (Wrote (rx .now) (tx .now) old r (ws .1 .1 .0)) (λ e.
+        ⊛ raw (fact 𝓤 (Writes (writing (rx .now) (tx .now) (length old)) old r (ws .1 .1 .0))))) (id⊢ 𝓤 _) $ pick ! (λ ws.
+        split ! $ move ! (1 ∷ []) $ heard ! (Writes (writing (rx .now) (tx .now) (length old)) old r (ws .1 .1 .0)) (λ e.
         fsplit ! $ drop ! $ fsplit ! $ drop ! $ fsplit ! $ fsplit ! $ move ! (1 ∷ []) $ feqL ! (λ len.
         -- [the last bytes; true; the tokens and the result; true; what text owns; what rows owns; _6; …]
         move ! (2 ∷ []) $ split ! $ move ! (1 ∷ []) $ facts ! N.the-row (Is N.the-row) (shows 𝓤 H A N.the-row) r (u ∷ []) (λ is.

@@ -7,8 +7,8 @@ use Rattle.joiner.proofs.joining.canonicalize.Tie as tie
 check-requires : tie.Need-check-requires
 check-requires c κs = search needs
 
-enum-known-e : tie.Need-enum-known-e
-enum-known-e c = search needs
+enum-known-f : tie.Need-enum-known-f
+enum-known-f c = search needs
 
 enum-known-b : tie.Need-enum-known-b
 enum-known-b c = search needs
@@ -27,33 +27,30 @@ merge-requires c κs =
     let check′ = c .before .before .before .before .before .check in
     with-empty (reads _ (rw (c .before .before .before .b .given .1) at (check′ .ensures)))
 
-written-requires : tie.Need-written-requires
-written-requires c κs = search needs
-
 returns : tie.Need-returns
-returns c = unread-alone _ _ _ _ (rw (c .before .e .given .1) at (c .before .before .before .check .ensures))
+returns c = unread-alone _ _ (rw (c .before .f .given .1) at (c .before .before .before .check .ensures))
 
 same-length : tie.Need-same-length
 same-length c = search needs
 
 returns-2 : tie.Need-returns-2
 returns-2 c =
-    let b′ = c .before .before .before .before .before .before .before .b in
-    let check′ = c .before .before .before .before .before .before .before .before .before .check in
-    canonicalized (reads _ (rw (b′ .given .1) at (check′ .ensures))) (c .before .before .before .merge .ensures) (c .written .ensures)
+    let back = c .before .before .before .before .before in
+    let b′ = back .before .b in
+    let check′ = back .before .before .before .check in
+    canonicalized (reads _ (rw (b′ .given .1) at (check′ .ensures))) (c .before .before .merge .ensures)
 
 pub canonicalize-spec : {M : Type 1} → statement M
 canonicalize-spec =
     tie.close
     (tie.spec
     check-requires
-    enum-known-e
+    enum-known-f
     enum-known-b
     sub-merge
     part-merge-start
     part-merge-end
     merge-requires
-    written-requires
     returns
     same-length
     returns-2)

@@ -8,8 +8,11 @@ use Rattle.joiner.proofs.joining.join.Tie as tie
 check-requires : tie.Need-check-requires
 check-requires c κs = search needs
 
-enum-known-e : tie.Need-enum-known-e
-enum-known-e c = search needs
+enum-known-f : tie.Need-enum-known-f
+enum-known-f c = search needs
+
+on-requires : tie.Need-on-requires
+on-requires c κs = search needs
 
 enum-known-a : tie.Need-enum-known-a
 enum-known-a c = search needs
@@ -17,35 +20,51 @@ enum-known-a c = search needs
 check-requires-2 : tie.Need-check-requires-2
 check-requires-2 c κs = search needs
 
-enum-known-e-2 : tie.Need-enum-known-e-2
-enum-known-e-2 c = search needs
+enum-known-f-2 : tie.Need-enum-known-f-2
+enum-known-f-2 c = search needs
+
+on-requires-2 : tie.Need-on-requires-2
+on-requires-2 c κs = search needs
 
 enum-known-b : tie.Need-enum-known-b
 enum-known-b c = search needs
 
 add-merge : tie.Need-add-merge
 add-merge c =
-    let s = c .before .before .before .before .before .before .before .before .before .before .before .before .before .before in
-    let a′ = c .before .before .before .before .before .before .before .before .a in
-    let check′ = c .before .before .before .before .before .before .before .before .before .before .check in
-    let check2′ = c .before .before .before .before .before .before .check2 in
-    omega (arith, reads-few (reads (s .args .first .now) (rw (a′ .given .1) at (check′ .ensures))), reads-few (reads (s .args .second .now) (rw (c .before .before .before .before .b .given .1) at (check2′ .ensures))))
+    let b′ = c .before .before .before .before .b in
+    let back = c .before .before .before .before .before in
+    let check2′ = back .before .check2 in
+    let a′ = back .before .before .before .a in
+    let check′ = back .before .before .before .before .before .check in
+    let back′ = back .before .before .before .before .before in
+    let args′ = back′ .before .before .before .before .args in
+    let a = args′ in
+    let first = reads (a .first .now) (rw (a′ .given .1) at (check′ .ensures)) in
+    let second = reads (a .second .now) (rw (b′ .given .1) at (check2′ .ensures)) in
+    omega (arith, reads-few first, reads-few second)
 
 merge-requires : tie.Need-merge-requires
 merge-requires c κs =
-    let a′ = c .before .before .before .before .before .before .before .before .a in
-    let check′ = c .before .before .before .before .before .before .before .before .before .before .check in
-    let check2′ = c .before .before .before .before .before .before .check2 in
-    both (reads _ (rw (a′ .given .1) at (check′ .ensures))) (reads _ (rw (c .before .before .before .before .b .given .1) at (check2′ .ensures)))
+    let b′ = c .before .before .before .before .b in
+    let back = c .before .before .before .before .before in
+    let check2′ = back .before .check2 in
+    let a′ = back .before .before .before .a in
+    let check′ = back .before .before .before .before .before .check in
+    both (reads _ (rw (a′ .given .1) at (check′ .ensures))) (reads _ (rw (b′ .given .1) at (check2′ .ensures)))
 
 returns : tie.Need-returns
-returns c = unread-first _ _ _ _ _ (rw (c .before .e .given .1) at (c .before .before .before .check .ensures))
+returns c =
+    let check′ = c .before .before .before .before .check in
+    unread-first _ _ _ (rw (c .before .before .f .given .1) at (check′ .ensures)) (c .on .ensures)
 
 returns-2 : tie.Need-returns-2
 returns-2 c =
-    let a′ = c .before .before .before .before .before .a in
-    let check′ = c .before .before .before .before .before .before .before .check in
-    unread-second _ _ _ _ _ (reads _ (rw (a′ .given .1) at (check′ .ensures))) (rw (c .before .e2 .given .1) at (c .before .before .before .check2 .ensures))
+    let check2′ = c .before .before .before .before .check2 in
+    let back = c .before .before .before .before .before in
+    let a′ = back .before .a in
+    let check′ = back .before .before .before .check in
+    let first = reads _ (rw (a′ .given .1) at (check′ .ensures)) in
+    unread-second _ _ _ first (rw (c .before .before .f2 .given .1) at (check2′ .ensures)) (c .on2 .ensures)
 
 same-length : tie.Need-same-length
 same-length c = search needs
@@ -58,10 +77,12 @@ join-spec =
     tie.close
     (tie.spec
     check-requires
-    enum-known-e
+    enum-known-f
+    on-requires
     enum-known-a
     check-requires-2
-    enum-known-e-2
+    enum-known-f-2
+    on-requires-2
     enum-known-b
     add-merge
     merge-requires

@@ -7,58 +7,96 @@ use borrow.Author.Needs.{needs}
 use Rattle.joiner.proofs.merging.merge.Statement.{statement}
 use Rattle.joiner.proofs.merging.merge.Tie as tie
 
+fail-requires : tie.Need-fail-requires
+fail-requires c κs = search needs
+
 returns : tie.Need-returns
-returns c = rows-over (c .before .before .before .before .pre) _ (c .if1 .taken)
+returns c =
+    let pre′ = c .before .before .before .before .before .pre in
+    rows-over (pre′) _ (c .fail .ensures) (c .before .if1 .taken)
 
 measure-both-requires : tie.Need-measure-both-requires
 measure-both-requires c κs =
-    let s = c .before .before .before .before .before in
-    (record { rows = _; both = s .pre; few = c .before .if1 .left }, length-replicate {A = ℕ} 1024 0)
+    let pre′ = c .before .before .before .before .before .pre in
+    (record { rows = _; both = pre′; few = c .before .if1 .left }, length-replicate {A = ℕ} 1024 0)
+
+fail-requires-2 : tie.Need-fail-requires-2
+fail-requires-2 c κs = search needs
 
 returns-2 : tie.Need-returns-2
 returns-2 c =
-    let s = c .before .before .before .before .before .before .before .before in
-    names-over (s .pre) (c .before .before .before .before .if1 .left) (c .before .before .measure-both .ensures _ (s .pre) (c .before .before .before .before .if1 .left)) (s .args .out .now) (c .if2 .taken)
+    let if1′ = c .before .before .before .before .before .if1 in
+    let back = c .before .before .before .before .before in
+    let pre′ = back .before .before .before .before .pre in
+    let args′ = back .before .before .before .before .args in
+    let p = pre′ in
+    let few = if1′ .left in
+    names-over p few (c .before .before .before .measure-both .ensures _ p few) (args′ .out .now) (c .fail2 .ensures) (c .before .if2 .taken)
 
 is-over-requires : tie.Need-is-over-requires
 is-over-requires c κs = search needs
 
+fail-requires-3 : tie.Need-fail-requires-3
+fail-requires-3 c κs = search needs
+
 returns-3 : tie.Need-returns-3
 returns-3 c =
-    let s = c .before .before .before .before .before .before .before .before .before .before in
-    let if1′ = c .before .before .before .before .before .before .if1 in
-    size-over (s .pre) (if1′ .left) (c .before .before .before .before .measure-both .ensures _ (s .pre) (if1′ .left)) (s .args .out .now) (c .before .before .if2 .left) (sym (c .before .is-over .ensures) ∙ c .if3 .taken)
+    let measure-both′ = c .before .before .before .before .before .measure-both in
+    let back = c .before .before .before .before .before in
+    let if1′ = back .before .before .if1 in
+    let back′ = back .before .before .before .before .before in
+    let pre′ = back′ .before .pre in
+    let args′ = back′ .before .args in
+    let p = pre′ in
+    let few = if1′ .left in
+    size-over p few (measure-both′ .ensures _ p few) (args′ .out .now) (c .before .before .before .if2 .left) (c .fail3 .ensures) (sym (c .before .before .is-over .ensures) ∙ c .before .if3 .taken)
 
 put-both-requires : tie.Need-put-both-requires
 put-both-requires c κs =
-    let s = c .before .before .before .before .before .before .before .before .before .before .before .before in
-    let if1′ = c .before .before .before .before .before .before .before .before .if1 in
-    let measure-both′ = c .before .before .before .before .before .before .measure-both in
-    record { rows = _; both = s .pre; planned = planned (s .pre) (if1′ .left) (measure-both′ .ensures _ (s .pre) (if1′ .left)) (s .args .out .now) (c .before .before .before .before .if2 .left) (sym (c .before .before .before .is-over .ensures) ∙ c .before .before .if3 .left) }
+    let if2′ = c .before .before .before .before .if2 in
+    let back = c .before .before .before .before .before in
+    let measure-both′ = back .before .measure-both in
+    let if1′ = back .before .before .before .if1 in
+    let back′ = back .before .before .before .before .before in
+    let pre′ = back′ .before .before .pre in
+    let args′ = back′ .before .before .args in
+    let p = pre′ in
+    let few = if1′ .left in
+    let fits = sym (c .before .before .before .is-over .ensures) ∙ c .before .before .if3 .left in
+    record { rows = _; both = p; planned = planned p few (measure-both′ .ensures _ p few) (args′ .out .now) (if2′ .left) fits }
 
 same-length : tie.Need-same-length
 same-length c = search needs
 
 returns-4 : tie.Need-returns-4
 returns-4 c =
-    let measure-both′ = c .before .before .before .before .before .before .before .before .before .measure-both in
-    let s = c .before .before .before .before .before .before .before .before .before .before .before .before .before .before .before in
-    let if1′ = c .before .before .before .before .before .before .before .before .before .before .before .if1 in
-    let is-over′ = c .before .before .before .before .before .before .is-over in
     let if3′ = c .before .before .before .before .before .if3 in
-    let if2′ = c .before .before .before .before .before .before .before .if2 in
-    let m = measure-both′ .ensures _ (s .pre) (if1′ .left) in
-    let o = sym (is-over′ .ensures) ∙ if3′ .left in
-    written (s .pre) (if1′ .left) m (s .args .out .now) (if2′ .left) o (c .before .before .put-both .ensures _ (s .pre) (planned (s .pre) (if1′ .left) m (s .args .out .now) (if2′ .left) o))
+    let back = c .before .before .before .before .before in
+    let is-over′ = back .before .is-over in
+    let if2′ = back .before .before .if2 in
+    let measure-both′ = back .before .before .before .before .measure-both in
+    let back′ = back .before .before .before .before .before in
+    let if1′ = back′ .before .if1 in
+    let pre′ = back′ .before .before .before .before .before .pre in
+    let args′ = back′ .before .before .before .before .before .args in
+    let p = pre′ in
+    let few = if1′ .left in
+    let old = args′ .out .now in
+    let m = measure-both′ .ensures _ p few in
+    let fits = sym (is-over′ .ensures) ∙ if3′ .left in
+    written p few m old (if2′ .left) fits (c .before .before .put-both .ensures _ p (planned p few m old (if2′ .left) fits))
 
 pub merge-spec : {M : Type 1} → statement M
 merge-spec =
     tie.close
     (tie.spec
+    fail-requires
     returns
     measure-both-requires
+    fail-requires-2
     returns-2
     is-over-requires
+    fail-requires-3
     returns-3
     put-both-requires
     same-length

@@ -3,7 +3,6 @@ use mathlib.Core.Path.{sym, ap, subst, subst⁻¹, _∙_}
 use mathlib.Core.List.{List}
 use Prim.Native.Nat.{ℕ, _≤_}
 use lib.ListN.{length}
-use Rattle.format.specs.Answer.{fail}
 use Rattle.reader.specs.declared.checking.Checked.{Checked}
 use Rattle.reader.specs.Answers.{answerOf}
 use Rattle.wire.specs.Output.{Puts}
@@ -25,9 +24,13 @@ slice-aggregate-put-bundle-line-2 c = search needs
 put-bundle-line-requires : tie.Need-put-bundle-line-requires
 unfolding ascii firstLine
 put-bundle-line-requires c κs =
-    let s = c .before .before .before .before .before .before .before in
-    let e = sym (ap (λ (a : Checked). firstLine (s .args .k) (answerOf a)) (c .before .before .before .before .answer .given .1)) in
-    subst⁻¹ (λ (w : List ℕ). length w ≤ length (s .args .out .now)) e (s .pre)
+    let answer′ = c .before .before .before .before .answer in
+    let back = c .before .before .before .before .before in
+    let args′ = back .before .before .args in
+    let pre′ = back .before .before .pre in
+    let a = args′ in
+    let e = sym (ap (λ (r : Checked). firstLine (a .k) (answerOf r)) (answer′ .given .1)) in
+    subst⁻¹ (λ (w : List ℕ). length w ≤ length (a .out .now)) e (pre′)
 
 enum-known-answer-2 : tie.Need-enum-known-answer-2
 enum-known-answer-2 c = search needs
@@ -45,12 +48,18 @@ slice-aggregate-put-bundle-line-4 : tie.Need-slice-aggregate-put-bundle-line-4
 slice-aggregate-put-bundle-line-4 c = search needs
 
 put-bundle-line-requires-2 : tie.Need-put-bundle-line-requires-2
-unfolding ascii firstLine fail
+unfolding ascii firstLine
 put-bundle-line-requires-2 c κs =
-    let s = c .before .before .before .before .before .before .before .before in
     let answer2′ = c .before .before .before .before .before .answer2 in
-    let e = ap (λ (n : ℕ). bundleLine (s .args .k) refused-word n at-word (answer2′ .given .0 .1 .0)) (c .before .before .code .ensures) ∙ sym (ap (λ (a : Checked). firstLine (s .args .k) (answerOf a)) (answer2′ .given .1)) in
-    subst⁻¹ (λ (w : List ℕ). length w ≤ length (s .args .out .now)) e (s .pre)
+    let back = c .before .before .before .before .before in
+    let args′ = back .before .before .before .args in
+    let pre′ = back .before .before .before .pre in
+    let a = args′ in
+    let f = answer2′ .given .0 .0 in
+    let e =
+    ap (λ (n : ℕ). bundleLine (a .k) refused-word n at-word (f .place)) (c .before .before .code .ensures)
+    ∙ sym (ap (λ (r : Checked). firstLine (a .k) (answerOf r)) (answer2′ .given .1)) in
+    subst⁻¹ (λ (w : List ℕ). length w ≤ length (a .out .now)) e (pre′)
 
 same-length : tie.Need-same-length
 same-length c = search needs
@@ -58,22 +67,32 @@ same-length c = search needs
 returns : tie.Need-returns
 unfolding ascii firstLine
 returns c =
-    let s = c .before .before .before .before .before .before .before .before .before .before in
-    let e = sym (ap (λ (a : Checked). firstLine (s .args .k) (answerOf a)) (c .before .before .before .before .before .before .before .answer .given .1)) in
-    subst (λ (w : List ℕ). Puts w (c .before .before .put-bundle-line .result) (s .args .out .now) (c .before .before .put-bundle-line .last .1 .1 .1 .1 .1 .0)) e (c .before .before .put-bundle-line .ensures)
+    let back = c .before .before .before .before .before in
+    let answer′ = back .before .before .answer in
+    let args′ = back .before .before .before .before .before .args in
+    let a = args′ in
+    let put = c .before .before .put-bundle-line in
+    let e = sym (ap (λ (r : Checked). firstLine (a .k) (answerOf r)) (answer′ .given .1)) in
+    subst (λ (w : List ℕ). Puts w (put .result) (a .out .now) (put .last .1 .1 .1 .1 .1 .0)) e (put .ensures)
 
 same-length-2 : tie.Need-same-length-2
 same-length-2 c = search needs
 
 returns-2 : tie.Need-returns-2
-unfolding ascii firstLine fail
+unfolding ascii firstLine
 returns-2 c =
-    let s = c .before .before .before .before .before .before .before .before .before .before .before in
-    let answer2′ = c .before .before .before .before .before .before .before .before .answer2 in
     let code′ = c .before .before .before .before .before .code in
-    let put-bundle-line2′ = c .before .before .put-bundle-line2 in
-    let e = ap (λ (n : ℕ). bundleLine (s .args .k) refused-word n at-word (answer2′ .given .0 .1 .0)) (code′ .ensures) ∙ sym (ap (λ (a : Checked). firstLine (s .args .k) (answerOf a)) (answer2′ .given .1)) in
-    subst (λ (w : List ℕ). Puts w (put-bundle-line2′ .result) (s .args .out .now) (put-bundle-line2′ .last .1 .1 .1 .1 .1 .0)) e (put-bundle-line2′ .ensures)
+    let back = c .before .before .before .before .before in
+    let answer2′ = back .before .before .before .answer2 in
+    let back′ = back .before .before .before .before .before in
+    let args′ = back′ .before .args in
+    let a = args′ in
+    let put = c .before .before .put-bundle-line2 in
+    let f = answer2′ .given .0 .0 in
+    let e =
+    ap (λ (n : ℕ). bundleLine (a .k) refused-word n at-word (f .place)) (code′ .ensures)
+    ∙ sym (ap (λ (r : Checked). firstLine (a .k) (answerOf r)) (answer2′ .given .1)) in
+    subst (λ (w : List ℕ). Puts w (put .result) (a .out .now) (put .last .1 .1 .1 .1 .1 .0)) e (put .ensures)
 
 pub put-first-spec : {M : Type 1} → statement M
 put-first-spec =

@@ -1,34 +1,31 @@
 -- `programs::entry::status` meets its contract. Assumes nothing.
 use mathlib.Core.Path.{sym}
-use native.Mathlib.Omega.{arith}
 use Rattle.programs.proofs.Requests.{status-failed, status-good, status-refused, status-stopped}
+use borrow.Author.Needs.{needs}
 use Rattle.programs.proofs.entry.status.Statement.{statement}
 use Rattle.programs.proofs.entry.status.Tie as tie
 
 returns : tie.Need-returns
-returns c =
-    let start = c .before .before in
-    sym (status-failed (start .args .s) (c .if1 .taken))
+returns c = sym (status-failed (c .before .args .s) (c .if1 .taken))
 
 returns-2 : tie.Need-returns-2
-returns-2 c =
-    let if1′ = c .before in
-    let start = if1′ .before .before in
-    sym (status-stopped (start .args .s) (if1′ .if1 .left) (c .if2 .taken))
+returns-2 c = sym (status-stopped (c .before .before .args .s) (c .before .if1 .left) (c .if2 .taken))
+
+enum-told : tie.Need-enum-told
+enum-told c = search needs
+
+enum-told-2 : tie.Need-enum-told-2
+enum-told-2 c = search needs
 
 returns-3 : tie.Need-returns-3
 returns-3 c =
-    let if2′ = c .before .before in
-    let if1′ = if2′ .before in
-    let start = if1′ .before .before in
-    sym (status-refused (start .args .s) (if1′ .if1 .left) (if2′ .if2 .left) (λ z. absurd (omega (arith, z, c .if3 .taken))))
+    let args′ = c .before .before .before .before .args in
+    sym (status-refused (args′ .s) (c .before .before .before .if1 .left) (c .before .before .if2 .left) (c .enum-told .given .1))
 
 returns-4 : tie.Need-returns-4
 returns-4 c =
-    let if2′ = c .before .before in
-    let if1′ = if2′ .before in
-    let start = if1′ .before .before in
-    sym (status-good (start .args .s) (if1′ .if1 .left) (if2′ .if2 .left) (omega (arith, c .if3 .left)))
+    let args′ = c .before .before .before .before .args in
+    sym (status-good (args′ .s) (c .before .before .before .if1 .left) (c .before .before .if2 .left) (c .enum-told2 .given .1))
 
 pub status-spec : {M : Type 1} → statement M
-status-spec = tie.close (tie.spec returns returns-2 returns-3 returns-4)
+status-spec = tie.close (tie.spec returns returns-2 enum-told enum-told-2 returns-3 returns-4)

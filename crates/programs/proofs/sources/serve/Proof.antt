@@ -16,10 +16,10 @@ slice-aggregate-put-label c = search needs
 
 put-label-requires : tie.Need-put-label-requires
 put-label-requires c κs =
-    let new′ = c .before in
-    let start = new′ .before .before .before in
-    let fits = label-fits (start .args .name .now) (start .args .subject .now) (start .pre .0) (start .pre .1) in
-    omega (arith, fits, new′ .new .ensures)
+    let args′ = c .before .before .before .before .args in
+    let pre′ = c .before .before .before .before .pre in
+    let a = args′ in
+    omega (arith, label-fits (a .name .now) (a .subject .now) (pre′ .0) (pre′ .1), c .before .new .ensures)
 
 new-requires-2 : tie.Need-new-requires-2
 new-requires-2 c κs = search needs
@@ -33,48 +33,55 @@ slice-aggregate-put-label-3 c = search needs
 put-label-requires-2 : tie.Need-put-label-requires-2
 unfolding ascii
 put-label-requires-2 c κs =
-    let new2′ = c .before .before in
-    let new′ = new2′ .before .before .before .before in
-    let start = new′ .before .before .before in
-    let fits = label-fits (start .args .name .now) (ascii "standard output") (start .pre .0) (omega arith) in
-    omega (arith, fits, new2′ .new2 .ensures)
+    let back = c .before .before .before .before .before in
+    let args′ = back .before .before .before .before .args in
+    let pre′ = back .before .before .before .before .pre in
+    let fits = label-fits (args′ .name .now) (ascii "standard output") (pre′ .0) (omega arith) in
+    omega (arith, fits, c .before .before .new2 .ensures)
 
 array-share-prefix-reading : tie.Need-array-share-prefix-reading
 array-share-prefix-reading c =
-    let reading2′ = c .before .before .before .before .before in
-    let put-label′ = reading2′ .before in
-    let start = put-label′ .before .before .before .before .before in
-    let fits = label-fits (start .args .name .now) (start .args .subject .now) (start .pre .0) (start .pre .1) in
-    omega (arith, fits, put-label′ .put-label .ensures .0, reading2′ .reading2 .given)
+    let reading2′ = c .before .before .before .before .before .reading2 in
+    let back = c .before .before .before .before .before in
+    let put-label′ = back .before .put-label in
+    let back′ = back .before .before .before .before .before in
+    let args′ = back′ .before .args in
+    let pre′ = back′ .before .pre in
+    let a = args′ in
+    let fits = label-fits (a .name .now) (a .subject .now) (pre′ .0) (pre′ .1) in
+    omega (arith, fits, put-label′ .ensures .0, reading2′ .given)
 
 slice-aggregate-run : tie.Need-slice-aggregate-run
 slice-aggregate-run c =
-    let new2′ = c .before .before .before .before .before in
-    let reading2′ = new2′ .before in
-    let put-label′ = reading2′ .before in
-    let start = put-label′ .before .before .before .before .before in
-    let fits = label-fits (start .args .name .now) (start .args .subject .now) (start .pre .0) (start .pre .1) in
-    sym (length-take-le _ _ (omega (arith, fits, put-label′ .put-label .ensures .0, reading2′ .reading2 .given)))
+    let back = c .before .before .before .before .before in
+    let reading2′ = back .before .reading2 in
+    let put-label′ = back .before .before .put-label in
+    let back′ = back .before .before .before .before .before in
+    let args′ = back′ .before .before .args in
+    let pre′ = back′ .before .before .pre in
+    let a = args′ in
+    let fits = label-fits (a .name .now) (a .subject .now) (pre′ .0) (pre′ .1) in
+    sym (length-take-le _ _ (omega (arith, fits, put-label′ .ensures .0, reading2′ .given)))
 
 array-share-prefix-writing : tie.Need-array-share-prefix-writing
 unfolding ascii
 array-share-prefix-writing c =
-    let writing2′ = c .before in
-    let put-label2′ = writing2′ .before in
-    let put-label′ = put-label2′ .before .before .before .before .before in
-    let start = put-label′ .before .before .before .before .before in
-    let fits = label-fits (start .args .name .now) (ascii "standard output") (start .pre .0) (omega arith) in
-    omega (arith, fits, put-label2′ .put-label2 .ensures .0, writing2′ .writing2 .given)
+    let back = c .before .before .before .before .before in
+    let back′ = back .before .before .before .before .before in
+    let args′ = back′ .before .before .args in
+    let pre′ = back′ .before .before .pre in
+    let fits = label-fits (args′ .name .now) (ascii "standard output") (pre′ .0) (omega arith) in
+    omega (arith, fits, c .before .before .put-label2 .ensures .0, c .before .writing2 .given)
 
 slice-aggregate-run-2 : tie.Need-slice-aggregate-run-2
 unfolding ascii
 slice-aggregate-run-2 c =
-    let writing2′ = c .before .before in
-    let put-label2′ = writing2′ .before in
-    let put-label′ = put-label2′ .before .before .before .before .before in
-    let start = put-label′ .before .before .before .before .before in
-    let fits = label-fits (start .args .name .now) (ascii "standard output") (start .pre .0) (omega arith) in
-    sym (length-take-le _ _ (omega (arith, fits, put-label2′ .put-label2 .ensures .0, writing2′ .writing2 .given)))
+    let back = c .before .before .before .before .before in
+    let back′ = back .before .before .before .before .before in
+    let args′ = back′ .before .before .before .args in
+    let pre′ = back′ .before .before .before .pre in
+    let fits = label-fits (args′ .name .now) (ascii "standard output") (pre′ .0) (omega arith) in
+    sym (length-take-le _ _ (omega (arith, fits, c .before .before .before .put-label2 .ensures .0, c .before .before .writing2 .given)))
 
 run-requires : tie.Need-run-requires
 run-requires c κs = search needs
@@ -84,12 +91,15 @@ slice-aggregate-say-refusal c = search needs
 
 say-refusal-requires : tie.Need-say-refusal-requires
 say-refusal-requires c κs =
-    let put-label2′ = c .before .before .before .before .before in
-    let reading2′ = put-label2′ .before .before .before .before in
-    let put-label′ = reading2′ .before in
-    let start = put-label′ .before .before .before .before .before in
-    let fits = refusal-fits (start .args .name .now) (start .args .subject .now) (start .pre .0) (start .pre .1) _ (put-label′ .put-label .ensures .0) in
-    omega (arith, fits, reading2′ .reading2 .given)
+    let back = c .before .before .before .before .before in
+    let reading2′ = back .before .before .before .before .reading2 in
+    let put-label′ = back .before .before .before .before .before .put-label in
+    let back′ = back .before .before .before .before .before in
+    let args′ = back′ .before .before .before .before .before .args in
+    let pre′ = back′ .before .before .before .before .before .pre in
+    let a = args′ in
+    let fits = refusal-fits (a .name .now) (a .subject .now) (pre′ .0) (pre′ .1) _ (put-label′ .ensures .0) in
+    omega (arith, fits, reading2′ .given)
 
 returns : tie.Need-returns
 returns c = search needs

@@ -1,6 +1,6 @@
 -- `walk` counts what reading counts: more fields are asked for than there are bytes, so the bytes end first. Assumes nothing.
 use native.Mathlib.Omega.{arith}
-use mathlib.Core.Path.{_≡_, sym}
+use mathlib.Core.Path.{_≡_, sym, _∙_}
 use Prim.Native.Nat.{min}
 use Rattle.format.specs.Limits.{max-rows}
 use Rattle.format.specs.Reading.{options, start}
@@ -10,8 +10,11 @@ use borrow.Author.Needs.{needs}
 use Rattle.reader.proofs.checking.walk.Statement.{statement}
 use Rattle.reader.proofs.checking.walk.Tie as tie
 
+fail-requires : tie.Need-fail-requires
+fail-requires c κs = search needs
+
 returns : tie.Need-returns
-returns c = λ n m. too-long (options (c .before .before .args .mode) n) _ (c .if1 .taken)
+returns c = λ n m. c .fail .ensures ∙ too-long (options (c .before .before .before .args .mode) n) _ (c .before .if1 .taken)
 
 is-strict-requires : tie.Need-is-strict-requires
 is-strict-requires c κs = search needs
@@ -19,68 +22,110 @@ is-strict-requires c κs = search needs
 fields-requires : tie.Need-fields-requires
 fields-requires c κs = (omega arith, c .before .before .before .if1 .left, fair-start _ _)
 
-enum-known-k : tie.Need-enum-known-k
-enum-known-k c = search needs
+enum-known-f : tie.Need-enum-known-f
+enum-known-f c = search needs
 
 enum-known-left : tie.Need-enum-known-left
 enum-known-left c = search needs
 
+fail-requires-2 : tie.Need-fail-requires-2
+fail-requires-2 c κs = search needs
+
 returns-2 : tie.Need-returns-2
 returns-2 c =
-    let s = c .before .before .before .before .before .before .before .before .before .before .before in
-    let left′ = c .before .before .before .left in
-    let fields′ = c .before .before .before .before .before .fields in
-    let is-strict′ = c .before .before .before .before .before .before .before .before .is-strict in
-    let if1′ = c .before .before .before .before .before .before .before .before .before .if1 in
+    let left′ = c .before .before .before .before .left in
+    let back = c .before .before .before .before .before in
+    let fields′ = back .before .fields in
+    let is-strict′ = back .before .before .before .before .is-strict in
+    let if1′ = back .before .before .before .before .before .if1 in
+    let back′ = back .before .before .before .before .before in
+    let args′ = back′ .before .before .args in
+    let a = args′ in
     let w = rw (left′ .given .1) at (fields′ .ensures .0) in
-    λ n m. let r = rw (left′ .given .1) at (fields′ .ensures .1 (outside 16385) (options (s .args .mode) n) start (sym (is-strict′ .ensures)) (outside-lane 16385) (stands-start _ _) (row-start (options (s .args .mode) n) (s .args .most) m) top-place) in top-keyed (options (s .args .mode) n) (s .args .bytes .now) (if1′ .left) r (w .1) (eqb-yes (c .if2 .taken))
+    λ n m.
+    let o = options (a .mode) n in
+    let r = rw (left′ .given .1) at (fields′ .ensures .1 (outside 16385) o start (sym (is-strict′ .ensures)) (outside-lane 16385) (stands-start _ _) (row-start o (a .most) m) top-place) in
+    c .fail2 .ensures ∙ top-keyed o (a .bytes .now) (if1′ .left) r (w .1) (eqb-yes (c .before .if2 .taken))
+
+sub-t21 : tie.Need-sub-t21
+sub-t21 c =
+    let left′ = c .before .before .before .before .left in
+    let back = c .before .before .before .before .before in
+    let fields′ = back .before .fields in
+    let is-strict′ = back .before .before .before .before .is-strict in
+    let back′ = back .before .before .before .before .before in
+    let args′ = back′ .before .before .args in
+    let pre′ = back′ .before .before .pre in
+    let a = args′ in
+    let o = options (a .mode) (a .most) in
+    let most : min max-rows (a .most) ≡ a .most = omega (arith, pre′) in
+    let r = rw (left′ .given .1) at (fields′ .ensures .1 (outside 16385) o start (sym (is-strict′ .ensures)) (outside-lane 16385) (stands-start _ _) (row-start o (a .most) most) top-place) in
+    omega (arith, r .row)
 
 sub-t22 : tie.Need-sub-t22
 sub-t22 c =
-    let s = c .before .before .before .before .before .before .before .before .before .before .before .before in
-    let fields′ = c .before .before .before .before .before .before .fields in
-    let is-strict′ = c .before .before .before .before .before .before .before .before .before .is-strict in
-    let most : min max-rows (s .args .most) ≡ s .args .most = omega (arith, s .pre) in let r = rw (c .before .before .before .before .left .given .1) at (fields′ .ensures .1 (outside 16385) (options (s .args .mode) (s .args .most)) start (sym (is-strict′ .ensures)) (outside-lane 16385) (stands-start _ _) (row-start (options (s .args .mode) (s .args .most)) (s .args .most) most) top-place) in omega (arith, r .row)
-
-sub-t23 : tie.Need-sub-t23
-sub-t23 c = let w = rw (c .before .before .before .before .left .given .1) at (c .before .before .before .before .before .before .fields .ensures .0) in w .3
+    let left′ = c .before .before .before .before .left in
+    let back = c .before .before .before .before .before in
+    let fields′ = back .before .fields in
+    let w = rw (left′ .given .1) at (fields′ .ensures .0) in w .3
 
 enum-known-u : tie.Need-enum-known-u
 enum-known-u c = search needs
 
+fail-requires-3 : tie.Need-fail-requires-3
+fail-requires-3 c κs = search needs
+
 returns-3 : tie.Need-returns-3
 returns-3 c =
-    let s = c .before .before .before .before .before .before .before .before .before in
-    let if1′ = c .before .before .before .before .before .before .before .if1 in
-    let is-strict′ = c .before .before .before .before .before .before .is-strict in
-    λ n m. top-failed (options (s .args .mode) n) (s .args .bytes .now) (if1′ .left) (c .before .k .given .0 .0) (c .before .k .given .0 .1 .0) (rw (c .before .k .given .1) at (c .before .before .before .fields .ensures .1 (outside 16385) (options (s .args .mode) n) start (sym (is-strict′ .ensures)) (outside-lane 16385) (stands-start _ _) (row-start (options (s .args .mode) n) (s .args .most) m) top-place))
+    let back = c .before .before .before .before .before in
+    let is-strict′ = back .before .is-strict in
+    let if1′ = back .before .before .if1 in
+    let args′ = back .before .before .before .before .args in
+    let a = args′ in
+    λ n m.
+    let o = options (a .mode) n in
+    let r = rw (c .before .f .given .1) at (c .before .before .before .fields .ensures .1 (outside 16385) o start (sym (is-strict′ .ensures)) (outside-lane 16385) (stands-start _ _) (row-start o (a .most) m) top-place) in
+    top-failed o (a .bytes .now) (if1′ .left) r
 
 returns-4 : tie.Need-returns-4
 returns-4 c =
-    let s = c .before .before .before .before .before .before .before .before .before .before .before .before in
     let left′ = c .before .before .before .before .left in
-    let fields′ = c .before .before .before .before .before .before .fields in
-    let is-strict′ = c .before .before .before .before .before .before .before .before .before .is-strict in
-    let if1′ = c .before .before .before .before .before .before .before .before .before .before .if1 in
+    let back = c .before .before .before .before .before in
+    let fields′ = back .before .fields in
+    let is-strict′ = back .before .before .before .before .is-strict in
+    let if1′ = back .before .before .before .before .before .if1 in
+    let back′ = back .before .before .before .before .before in
+    let args′ = back′ .before .before .args in
+    let a = args′ in
     let w = rw (left′ .given .1) at (fields′ .ensures .0) in
-    λ n m. let r = rw (left′ .given .1) at (fields′ .ensures .1 (outside 16385) (options (s .args .mode) n) start (sym (is-strict′ .ensures)) (outside-lane 16385) (stands-start _ _) (row-start (options (s .args .mode) n) (s .args .most) m) top-place) in top-good (options (s .args .mode) n) (s .args .bytes .now) (if1′ .left) r (w .1) (s .args .most) m (w .0 .size) (w .0 .few) (eqb-no (c .before .if2 .left))
+    λ n m.
+    let o = options (a .mode) n in
+    let r = rw (left′ .given .1) at (fields′ .ensures .1 (outside 16385) o start (sym (is-strict′ .ensures)) (outside-lane 16385) (stands-start _ _) (row-start o (a .most) m) top-place) in
+    top-good o (a .bytes .now) (if1′ .left) r (w .1) (a .most) m (w .0 .size) (w .0 .few) (eqb-no (c .before .if2 .left))
 
 returns-5 : tie.Need-returns-5
-returns-5 c = let w = rw (c .before .u .given .1) at (c .before .before .before .fields .ensures .0) in absurd (omega (arith, w .1, w .2, c .before .before .before .before .before .before .before .if1 .left))
+returns-5 c =
+    let fields′ = c .before .before .before .before .fields in
+    let back = c .before .before .before .before .before in
+    let if1′ = back .before .before .before .if1 in
+    let w = rw (c .before .before .u .given .1) at (fields′ .ensures .0) in absurd (omega (arith, w .1, w .2, if1′ .left))
 
 pub walk-spec : {M : Type 1} → statement M
 walk-spec =
     tie.close
     (tie.spec
+    fail-requires
     returns
     is-strict-requires
     fields-requires
-    enum-known-k
+    enum-known-f
     enum-known-left
+    fail-requires-2
     returns-2
+    sub-t21
     sub-t22
-    sub-t23
     enum-known-u
+    fail-requires-3
     returns-3
     returns-4
     returns-5)

@@ -5,7 +5,8 @@ use mathlib.Core.Bool.{not}
 use Rattle.format.specs.Utf8.{utf8}
 use Rattle.format.proofs.Tests.{not-false}
 use Rattle.rows.proofs.RowLaws.{kind-most, inside}
-use Rattle.rows.proofs.JudgeLaws.{error-3, error-8, refuse-next}
+use Rattle.rows.specs.Judging.{invalid-utf8, too-many-entries}
+use Rattle.rows.proofs.JudgeLaws.{refuse-next}
 use Rattle.rows.proofs.KindLaws.{name-invalid, fresh-full}
 use Rattle.rows.proofs.NameLaws.{has-content, name-stands, looked-up, among, known-next, fresh-next}
 use borrow.Author.Needs.{needs}
@@ -25,7 +26,7 @@ refuse-requires c κs = search needs
 returns : tie.Need-returns
 returns c = λ xs a.
     let w = c .before .before .before .before .before .pre .1 in
-    refuse-next a (c .before .before .before .before .before .args .row) 3 (c .refuse .ensures) (λ z. omega arith) error-3
+    refuse-next a (c .before .before .before .before .before .args .row) invalid-utf8 (c .refuse .ensures)
     (name-invalid a (c .before .before .before .before .before .args .row) (w .name) (w .fine) (w .alone) (ap not (ap utf8 (sym (c .before .before .before .content .ensures)) ∙ sym (c .before .before .is-utf8 .ensures)) ∙ c .before .if1 .taken))
 
 key-of-requires : tie.Need-key-of-requires
@@ -94,7 +95,7 @@ returns-4 c = λ xs a.
     let n = rw (c .before .enum-told2 .given .1) at (c .before .before .before .note .ensures) in
     let u = ap utf8 (sym (c .before .before .before .before .before .before .before .before .before .content .ensures)) ∙ sym (c .before .before .before .before .before .before .before .before .is-utf8 .ensures) ∙ not-false (c .before .before .before .before .before .before .before .if1 .left) in
     let e = looked-up a r w (p .0) (c .before .before .before .before .before .before .before .before .before .content .ensures) (n .0) in
-    refuse-next a r 8 (c .refuse2 .ensures) (λ z. omega arith) error-8 (fresh-full a r (w .name) (w .fine) (w .alone) (among a r w (p .0) e) u (n .1))
+    refuse-next a r too-many-entries (c .refuse2 .ensures) (fresh-full a r (w .name) (w .fine) (w .alone) (among a r w (p .0) e) u (n .1))
 
 pub looked-up-spec : {M : Type 1} → statement M
 looked-up-spec =

@@ -2,7 +2,8 @@
 use native.Mathlib.Omega.{arith}
 use mathlib.Core.Path.{sym, _∙_}
 use Rattle.rows.proofs.RowLaws.{content-text, bad-content, inside, kind-most}
-use Rattle.rows.proofs.JudgeLaws.{rule-9, error-9, error-5, refuse-next}
+use Rattle.rows.specs.Judging.{invalid-row, unexpected-key}
+use Rattle.rows.proofs.JudgeLaws.{rule-9, refuse-next}
 use Rattle.rows.proofs.KindLaws.{name-again}
 use Rattle.rows.proofs.NameLaws.{guessed, known-next}
 use borrow.Author.Needs.{needs}
@@ -20,7 +21,7 @@ returns c = λ xs a.
     let r = c .before .before .before .before .args .row in
     let text = c .before .before .before .before .args .text .now in
     let name = c .before .before .before .before .pre .1 in
-    refuse-next a r 9 (c .refuse .ensures) (λ z. omega arith) error-9 (rule-9 text (a .progress) r (bad-content text r (content-text (r .kind) (omega arith)) ∙ sym (c .before .before .is-bad .ensures) ∙ c .before .if1 .taken))
+    refuse-next a r invalid-row (c .refuse .ensures) (rule-9 text (a .progress) r (bad-content text r (content-text (r .kind) (omega arith)) ∙ sym (c .before .before .is-bad .ensures) ∙ c .before .if1 .taken))
 
 key-after-key-requires : tie.Need-key-after-key-requires
 key-after-key-requires c κs = search needs
@@ -34,7 +35,7 @@ returns-2 c = λ xs a.
     let text = c .before .before .before .before .before .before .args .text .now in
     let name = c .before .before .before .before .before .before .pre .1 in
     let fine = bad-content text r (content-text (r .kind) (omega arith)) ∙ sym (c .before .before .before .before .is-bad .ensures) ∙ c .before .before .before .if1 .left in
-    refuse-next a r 5 (c .refuse2 .ensures) (λ z. omega arith) error-5 (name-again a r name fine (sym (c .before .before .key-after-key .ensures) ∙ c .before .if2 .taken))
+    refuse-next a r unexpected-key (c .refuse2 .ensures) (name-again a r name fine (sym (c .before .before .key-after-key .ensures) ∙ c .before .if2 .taken))
 
 add-guess : tie.Need-add-guess
 add-guess c = search needs

@@ -4,7 +4,8 @@ use mathlib.Core.Path.{refl, _∙_}
 use Rattle.format.specs.declared.row.Row.{Row}
 use Rattle.format.proofs.Tests.{ltb-yes, ltb-no}
 use Rattle.encoder.proofs.Lengths.{header-most}
-use Rattle.rows.proofs.JudgeLaws.{error-6, ready-more, refuse-next, value-next, open-next, no-key, a-container, measured-plain}
+use Rattle.rows.specs.Judging.{too-deep}
+use Rattle.rows.proofs.JudgeLaws.{ready-more, refuse-next, value-next, open-next, no-key, a-container, measured-plain}
 use Rattle.rows.proofs.KindLaws.{plain-deep, container-none, container-fine, container-full}
 use borrow.Author.Needs.{needs}
 use Rattle.rows.proofs.row.container_row.Statement.{statement}
@@ -16,7 +17,7 @@ refuse-requires c κs = search needs
 returns : tie.Need-returns
 returns c = λ text es links plan xs a.
     let r : Row = record { kind = 8; number = c .before .before .before .args .number; start = 0 } in
-    refuse-next a r 6 (c .refuse .ensures) (λ z. omega arith) error-6 (plain-deep a r (omega arith) (container-fine text (r .number)) refl (c .before .if1 .taken))
+    refuse-next a r too-deep (c .refuse .ensures) (plain-deep a r (omega arith) (container-fine text (r .number)) refl (c .before .if1 .taken))
 
 header-len-requires : tie.Need-header-len-requires
 header-len-requires c κs = search needs

@@ -6,7 +6,8 @@ use lib.Dec.{eqb}
 use Rattle.format.specs.Choice.{_&&_}
 use Rattle.format.specs.Utf8.{utf8}
 use Rattle.rows.proofs.RowLaws.{content-kinds}
-use Rattle.rows.proofs.JudgeLaws.{rule-9, error-9, error-3, ready-more, refuse-next, value-next, no-key, no-container, measured-plain}
+use Rattle.rows.specs.Judging.{invalid-row, invalid-utf8}
+use Rattle.rows.proofs.JudgeLaws.{rule-9, ready-more, refuse-next, value-next, no-key, no-container, measured-plain}
 use Rattle.rows.proofs.KindLaws.{content-bad, content-full, content-small, plain-text, value-none}
 use borrow.Author.Needs.{needs}
 use Rattle.rows.proofs.row.content_row.Statement.{statement}
@@ -23,7 +24,7 @@ returns c = λ es links plan xs a.
     let p = c .before .before .before .before .pre in
     let r = c .before .before .before .before .args .row in
     let text = c .before .before .before .before .args .text .now in
-    refuse-next a r 9 (c .refuse .ensures) (λ z. omega arith) error-9 (rule-9 text (a .progress) r (content-bad text r (p .2) (omega (arith, p .1)) ∙ sym (c .before .before .outside .ensures) ∙ c .before .if1 .taken))
+    refuse-next a r invalid-row (c .refuse .ensures) (rule-9 text (a .progress) r (content-bad text r (p .2) (omega (arith, p .1)) ∙ sym (c .before .before .outside .ensures) ∙ c .before .if1 .taken))
 
 content-requires : tie.Need-content-requires
 content-requires c κs = let p = c .before .before .before .pre in (p .0 .short, content-bad _ (c .before .before .before .args .row) (p .2) (omega (arith, p .1)) ∙ sym (c .before .outside .ensures) ∙ c .if1 .left, p .2)
@@ -40,7 +41,7 @@ returns-2 c = λ es links plan xs a.
     let r = c .before .before .before .before .before .before .before .args .row in
     let text = c .before .before .before .before .before .before .before .args .text .now in
     let fine = content-bad text r (p .2) (omega (arith, p .1)) ∙ sym (c .before .before .before .before .before .outside .ensures) ∙ c .before .before .before .before .if1 .left in
-    refuse-next a r 3 (c .refuse2 .ensures) (λ z. omega arith) error-3
+    refuse-next a r invalid-utf8 (c .refuse2 .ensures)
     (plain-text a r (p .1) fine (content-kinds (r .kind) (p .2) .1 .1) (ap (λ bs. eqb (r .kind) 9 && not (utf8 bs)) (sym (c .before .before .before .content .ensures)) ∙ sym (c .before .before .bad-text .ensures) ∙ c .before .if2 .taken))
 
 sub-header-len : tie.Need-sub-header-len

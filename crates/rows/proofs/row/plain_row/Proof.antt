@@ -6,7 +6,8 @@ use lib.ListN.{length}
 use Rattle.format.specs.declared.row.Row.{Row}
 use Rattle.format.proofs.Tests.{eqb-no, and-no-left}
 use Rattle.rows.proofs.RowLaws.{bad-plain}
-use Rattle.rows.proofs.JudgeLaws.{rule-9, error-9, refuse-next, value-next, no-container, no-key, measured-plain}
+use Rattle.rows.specs.Judging.{invalid-row}
+use Rattle.rows.proofs.JudgeLaws.{rule-9, refuse-next, value-next, no-container, no-key, measured-plain}
 use Rattle.rows.proofs.KindLaws.{value-none, bare}
 use borrow.Author.Needs.{needs}
 use Rattle.rows.proofs.row.plain_row.Statement.{statement}
@@ -23,7 +24,7 @@ returns c = λ text es links plan xs a.
     let p = c .before .before .before .pre in
     let r : Row = record { kind = c .before .before .before .args .kind; number = c .before .before .before .args .number; start = 0 } in
     let bad = bad-plain text r (omega arith) (p .2) refl ∙ sym (c .before .before .bad-number .ensures) ∙ c .before .if1 .taken in
-    refuse-next a r 9 (c .refuse .ensures) (λ z. omega arith) error-9 (rule-9 text (a .progress) r bad)
+    refuse-next a r invalid-row (c .refuse .ensures) (rule-9 text (a .progress) r bad)
 
 plain-len-requires : tie.Need-plain-len-requires
 plain-len-requires c κs = search needs

@@ -2,7 +2,8 @@
 use native.Mathlib.Omega.{arith}
 use mathlib.Core.Path.{refl, sym, _∙_}
 use Rattle.rows.proofs.RowLaws.{row-is, content-none, bad-start}
-use Rattle.rows.proofs.JudgeLaws.{rule-9, error-9, refuse-next, next-row}
+use Rattle.rows.specs.Judging.{invalid-row}
+use Rattle.rows.proofs.JudgeLaws.{rule-9, refuse-next, next-row}
 use borrow.Author.Needs.{needs}
 use Rattle.rows.proofs.row.step.Statement.{statement}
 use Rattle.rows.proofs.row.step.Tie as tie
@@ -28,7 +29,7 @@ refuse-requires c κs = search needs
 returns-3 : tie.Need-returns-3
 returns-3 c = λ xs a.
     let r = c .before .before .before .before .before .before .before .args .row in
-    refuse-next a r 9 (c .refuse .ensures) (λ z. omega arith) error-9 (rule-9 _ (a .progress) r (bad-start _ r (sym (c .before .before .before .before .has-content .ensures) ∙ c .before .before .before .if2 .left) (c .before .if3 .taken)))
+    refuse-next a r invalid-row (c .refuse .ensures) (rule-9 _ (a .progress) r (bad-start _ r (sym (c .before .before .before .before .has-content .ensures) ∙ c .before .before .before .if2 .left) (c .before .if3 .taken)))
 
 container-row-requires : tie.Need-container-row-requires
 container-row-requires c κs = search needs

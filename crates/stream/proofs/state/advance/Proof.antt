@@ -12,14 +12,15 @@ moved-on-requires c κs = search needs
 note-requires : tie.Need-note-requires
 note-requires c κs = search needs
 
-add-t6 : tie.Need-add-t6
-add-t6 c = search needs
+add-t8 : tie.Need-add-t8
+add-t8 c = search needs
 
 returns : tie.Need-returns
 returns c =
-    let s = c .before .before .before in
-    rw (s .note .ensures, s .before .moved-on .ensures, s .before .before .wrapping-add-u64 .ensures)
+    let moved-on′ = c .before .before .before .before .moved-on in
+    let wrapping-add-u64′ = c .before .before .before .before .before .wrapping-add-u64 in
+    rw (c .before .before .before .note .ensures, moved-on′ .ensures, wrapping-add-u64′ .ensures)
 
 pub advance-spec : {M : Type 1} → statement M
 advance-spec =
-    tie.close (tie.spec wrapping-add-u64-requires moved-on-requires note-requires add-t6 returns)
+    tie.close (tie.spec wrapping-add-u64-requires moved-on-requires note-requires add-t8 returns)

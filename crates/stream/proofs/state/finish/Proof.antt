@@ -9,9 +9,8 @@ flush-requires c κs = search needs
 
 returns : tie.Need-returns
 returns c =
-    let flush′ = c .before .before .flush in
-    let s = c .before .before .before .before .before in
-    (finished (s .args .s) (flush′ .result) (flush′ .ensures), flush′ .ensures .1)
+    let args′ = c .before .before .before .before .args in
+    (finished (args′ .s) (c .before .flush .result) (c .before .flush .ensures), c .before .flush .ensures .1)
 
 pub finish-spec : {M : Type 1} → statement M
 finish-spec = tie.close (tie.spec flush-requires returns)

@@ -9,7 +9,10 @@ flush-requires : tie.Need-flush-requires
 flush-requires c κs = search needs
 
 returns : tie.Need-returns
-returns c = unpulled _ (c .before .flush .result) (c .before .flush .ensures) _ (c .before .before .before .before .before .before .pre .0 .0)
+returns c =
+    let back = c .before .before .before .before .before in
+    let pre′ = back .before .pre in
+    unpulled _ (c .before .flush .result) (c .before .flush .ensures) _ (pre′ .0 .0)
 
 pull-requires : tie.Need-pull-requires
 pull-requires c κs = search needs

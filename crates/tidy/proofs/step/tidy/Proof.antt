@@ -1,32 +1,16 @@
 -- `tidy::step::tidy` meets its contract, by what opening, canonicalizing and closing promise. Assumes nothing.
-use mathlib.Core.Path.{ap}
 use native.Mathlib.Omega.{arith}
-use Rattle.envelope.specs.declared.opening.Outcome.{Outcome}
+use Rattle.envelope.proofs.OpeningLaws.{opens}
 use Rattle.tidy.proofs.TidyLaws.{canonical-fits, canonical-length, closes, unopened, unreadable}
 use borrow.Author.Needs.{needs}
 use Rattle.tidy.proofs.step.tidy.Statement.{statement}
 use Rattle.tidy.proofs.step.tidy.Tie as tie
 
-open-error-requires : tie.Need-open-error-requires
-open-error-requires c κs = search needs
+bundle-len-requires : tie.Need-bundle-len-requires
+bundle-len-requires c κs = search needs
 
-returns : tie.Need-returns
-returns c =
-    let if1′ = c in
-    let open-error′ = if1′ .before .before in
-    unopened _ _ (open-error′ .open-error .result) (open-error′ .open-error .ensures) (λ z. absurd (omega (arith, z, if1′ .if1 .taken)))
-
-open-requires : tie.Need-open-requires
-open-requires c κs = search needs
-
-add-used : tie.Need-add-used
-add-used c = search needs
-
-canonicalize-requires : tie.Need-canonicalize-requires
-canonicalize-requires c κs = search needs
-
-enum-known-e : tie.Need-enum-known-e
-enum-known-e c = search needs
+enum-known-f : tie.Need-enum-known-f
+enum-known-f c = search needs
 
 refused-requires : tie.Need-refused-requires
 refused-requires c κs = search needs
@@ -34,50 +18,84 @@ refused-requires c κs = search needs
 enum-known-n : tie.Need-enum-known-n
 enum-known-n c = search needs
 
+open-requires : tie.Need-open-requires
+open-requires c κs = search needs
+
+canonicalize-requires : tie.Need-canonicalize-requires
+canonicalize-requires c κs = search needs
+
+enum-known-f-2 : tie.Need-enum-known-f-2
+enum-known-f-2 c = search needs
+
+refused-requires-2 : tie.Need-refused-requires-2
+refused-requires-2 c κs = search needs
+
+enum-known-m : tie.Need-enum-known-m
+enum-known-m c = search needs
+
+add-closed : tie.Need-add-closed
+add-closed c =
+    let back = c .before .before .before .before .before in
+    let n′ = back .before .before .before .before .n in
+    let back′ = back .before .before .before .before .before in
+    let bundle-len′ = back′ .before .bundle-len in
+    let j = opens _ (rw (n′ .given .1) at (bundle-len′ .ensures)) in omega (arith, j .0)
+
 slice-reshare-prefix-closed : tie.Need-slice-reshare-prefix-closed
 slice-reshare-prefix-closed c =
-    let n′ = c .before in
-    let canonicalize′ = n′ .before .before .before .before in
-    let open′ = canonicalize′ .before .before in
-    let if1′ = open′ .before in
-    let open-error′ = if1′ .before .before in
-    let start = open-error′ .before .before .before .before in
-    let q = ap (λ (o : Outcome). o .error) (open-error′ .open-error .ensures) in
-    canonical-fits (start .args .bytes .now) (start .args .out .now) _ _ _ (start .pre .0)
-    (omega (arith, q, if1′ .if1 .left)) (open′ .«open» .ensures) _
-    (rw (n′ .n .given .1) at (canonicalize′ .canonicalize .ensures))
+    let canonicalize′ = c .before .before .before .before .before .canonicalize in
+    let back = c .before .before .before .before .before in
+    let open′ = back .before .before .«open» in
+    let n′ = back .before .before .before .before .n in
+    let back′ = back .before .before .before .before .before in
+    let bundle-len′ = back′ .before .bundle-len in
+    let args′ = back′ .before .before .before .before .before .args in
+    let pre′ = back′ .before .before .before .before .before .pre in
+    let a = args′ in
+    let opened = rw (n′ .given .1) at (bundle-len′ .ensures) in
+    let canonical = rw (c .before .m .given .1) at (canonicalize′ .ensures) in
+    canonical-fits 0 (a .bytes .now) (a .out .now) _ _ _ (pre′ .0) opened (open′ .ensures) _ canonical
 
 slice-aggregate-closed : tie.Need-slice-aggregate-closed
 slice-aggregate-closed c =
-    let n′ = c .before .before in
-    let canonicalize′ = n′ .before .before .before .before in
-    let open′ = canonicalize′ .before .before in
-    let if1′ = open′ .before in
-    let open-error′ = if1′ .before .before in
-    let start = open-error′ .before .before .before .before in
-    let q = ap (λ (o : Outcome). o .error) (open-error′ .open-error .ensures) in
-    canonical-length (start .args .bytes .now) (start .args .out .now) _ _ _ (start .pre .0)
-    (omega (arith, q, if1′ .if1 .left)) (open′ .«open» .ensures) _
-    (rw (n′ .n .given .1) at (canonicalize′ .canonicalize .ensures))
+    let back = c .before .before .before .before .before in
+    let canonicalize′ = back .before .canonicalize in
+    let open′ = back .before .before .before .«open» in
+    let n′ = back .before .before .before .before .before .n in
+    let back′ = back .before .before .before .before .before in
+    let bundle-len′ = back′ .before .before .bundle-len in
+    let back′′ = back′ .before .before .before .before .before in
+    let args′ = back′′ .before .args in
+    let pre′ = back′′ .before .pre in
+    let a = args′ in
+    let opened = rw (n′ .given .1) at (bundle-len′ .ensures) in
+    let canonical = rw (c .before .before .m .given .1) at (canonicalize′ .ensures) in
+    canonical-length 0 (a .bytes .now) (a .out .now) _ _ _ (pre′ .0) opened (open′ .ensures) _ canonical
 
 closed-requires : tie.Need-closed-requires
 closed-requires c κs = search needs
+
+returns : tie.Need-returns
+returns c =
+    let bundle-len′ = c .before .before .before .before .bundle-len in
+    λ k. unopened k _ _ (rw (c .before .before .f .given .1) at (bundle-len′ .ensures)) (c .refused .ensures)
 
 same-length : tie.Need-same-length
 same-length c = search needs
 
 returns-2 : tie.Need-returns-2
 returns-2 c =
-    let refused′ = c in
-    let e′ = refused′ .before .before in
-    let canonicalize′ = e′ .before .before .before .before in
-    let open′ = canonicalize′ .before .before in
-    let if1′ = open′ .before in
-    let open-error′ = if1′ .before .before in
-    let start = open-error′ .before .before .before .before in
-    let q = ap (λ (o : Outcome). o .error) (open-error′ .open-error .ensures) in
-    unreadable _ _ _ _ _ (start .pre .0) (omega (arith, q, if1′ .if1 .left)) (open′ .«open» .ensures)
-    (rw (e′ .e .given .1) at (canonicalize′ .canonicalize .ensures)) (refused′ .refused .ensures)
+    let back = c .before .before .before .before .before in
+    let canonicalize′ = back .before .canonicalize in
+    let open′ = back .before .before .before .«open» in
+    let n′ = back .before .before .before .before .before .n in
+    let back′ = back .before .before .before .before .before in
+    let bundle-len′ = back′ .before .before .bundle-len in
+    let back′′ = back′ .before .before .before .before .before in
+    let pre′ = back′′ .before .pre in
+    let opened = rw (n′ .given .1) at (bundle-len′ .ensures) in
+    let unread = rw (c .before .before .f2 .given .1) at (canonicalize′ .ensures) in
+    λ k. unreadable k _ _ _ _ _ (pre′ .0) opened (open′ .ensures) unread (c .refused2 .ensures)
 
 same-length-2 : tie.Need-same-length-2
 same-length-2 c = search needs
@@ -87,32 +105,37 @@ same-length-3 c = search needs
 
 returns-3 : tie.Need-returns-3
 returns-3 c =
-    let closed′ = c .before .before in
-    let n′ = closed′ .before .before .before .before in
-    let canonicalize′ = n′ .before .before .before .before in
-    let open′ = canonicalize′ .before .before in
-    let if1′ = open′ .before in
-    let open-error′ = if1′ .before .before in
-    let start = open-error′ .before .before .before .before in
-    let q = ap (λ (o : Outcome). o .error) (open-error′ .open-error .ensures) in
-    closes _ _ _ _ _ (start .pre .0) (omega (arith, q, if1′ .if1 .left)) (open′ .«open» .ensures) _
-    (rw (n′ .n .given .1) at (canonicalize′ .canonicalize .ensures)) (start .pre .1) (closed′ .closed .ensures)
+    let back = c .before .before .before .before .before in
+    let m′ = back .before .m in
+    let canonicalize′ = back .before .before .before .before .before .canonicalize in
+    let back′ = back .before .before .before .before .before in
+    let open′ = back′ .before .before .«open» in
+    let n′ = back′ .before .before .before .before .n in
+    let back′′ = back′ .before .before .before .before .before in
+    let bundle-len′ = back′′ .before .bundle-len in
+    let pre′ = back′′ .before .before .before .before .before .pre in
+    let opened = rw (n′ .given .1) at (bundle-len′ .ensures) in
+    let canonical = rw (m′ .given .1) at (canonicalize′ .ensures) in
+    λ k. closes k _ _ _ _ _ (pre′ .0) opened (open′ .ensures) _ canonical (pre′ .1) (c .before .before .closed .ensures)
 
 pub tidy-spec : {M : Type 1} → statement M
 tidy-spec =
     tie.close
     (tie.spec
-    open-error-requires
-    returns
-    open-requires
-    add-used
-    canonicalize-requires
-    enum-known-e
+    bundle-len-requires
+    enum-known-f
     refused-requires
     enum-known-n
+    open-requires
+    canonicalize-requires
+    enum-known-f-2
+    refused-requires-2
+    enum-known-m
+    add-closed
     slice-reshare-prefix-closed
     slice-aggregate-closed
     closed-requires
+    returns
     same-length
     returns-2
     same-length-2

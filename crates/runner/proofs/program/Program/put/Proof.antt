@@ -32,8 +32,7 @@ unfolding filterOf
 returns c =
     let list′ = c .before .before in
     let enum-told′ = list′ .before .before in
-    let made = list′ .list .ensures in
-    rw (enum-told′ .enum-told .given .1) (record { step = made .step; puts = made .puts })
+    rw (enum-told′ .enum-told .given .1) (list′ .list .ensures)
 
 same-length-2 : tie.Need-same-length-2
 same-length-2 c = search needs
@@ -46,8 +45,7 @@ unfolding filterOf
 returns-2 c =
     let tidy′ = c .before .before .before .before in
     let enum-told2′ = tidy′ .before .before .before in
-    let made = tidy′ .tidy .ensures in
-    rw (enum-told2′ .enum-told2 .given .1) (record { step = made .step; puts = made .puts })
+    rw (enum-told2′ .enum-told2 .given .1) (tidy′ .tidy .ensures _)
 
 pub put-spec : {M : Type 1} → statement M
 put-spec =
