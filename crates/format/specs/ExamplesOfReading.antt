@@ -11,7 +11,7 @@ use Rattle.format.specs.Answer.{fail, first, good, rule, then, unless}
 use Rattle.format.specs.Kind as Kind
 use Rattle.format.specs.Header.{bigEndian, digits, following, header, headerOf, isLong, isNegativeAlias, payloadOf, shift, width, widthFrom}
 use Rattle.format.specs.Utf8.{goodAfter, leads, utf8, within}
-use Rattle.format.specs.Item.{Item, isContainer, isKey, isName, isText}
+use Rattle.format.specs.Item.{Item, held, isContainer, isKey, isName, isText, plain}
 use Rattle.format.specs.Names.{added, index, indexFrom, isSome, noted, same, sameName}
 use Rattle.format.specs.Place.{due, ended, moved, top}
 use Rattle.format.specs.Reading.{State, after, counts, countsOf, ending, formOf, headed, isContent, isMissing, item, itemOf, itemRules, items, itemsOf, lenient, options, orNull, reading, run, start, strict}
@@ -19,7 +19,7 @@ use Rattle.format.specs.Rows.{rowOf, rows}
 use Rattle.format.specs.Canonical.{canonical, canonicalFrom, encoded, full, named}
 use Rattle.format.specs.Writing.{fitted}
 use Rattle.format.specs.Joining.{canonicalizing}
-use Rattle.format.specs.Samples.{ahead, container, d, held, integer, key, m, names, names-items, negative, null, plain, row, symbol}
+use Rattle.format.specs.Samples.{ahead, container, d, integer, key, m, names, names-items, negative, null, row, symbol}
 
 -- ---- messages to try
 

@@ -1,18 +1,11 @@
 -- Items, rows and bytes that the examples speak of.
 use Prim.Native.Nat.{ℕ, zero, suc}
 use mathlib.Core.List.{List, [], _∷_, _++_}
-use lib.ListN.{length}
 use Rattle.format.specs.declared.row.Row.{Row}
 use Rattle.format.specs.Kind as Kind
-use Rattle.format.specs.Item.{Item}
+use Rattle.format.specs.Item.{Item, held, plain}
 
 -- ---- items and rows
-
-abbrev pub plain : ℕ → ℕ → Item
-plain kind n = record { kind = kind; number = n; content = [] }
-
-abbrev pub held : ℕ → List ℕ → Item
-held kind bs = record { kind = kind; number = length bs; content = bs }
 
 abbrev pub null : Item
 null = plain Kind.null 0
