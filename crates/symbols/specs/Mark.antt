@@ -23,6 +23,9 @@ abbrev pub fewOf : List ℕ → ℕ
 fewOf s = (getD s 0 0 * 256 + getD s (length s / 2) 0) * 256 + getD s (length s - 1) 0
 
 -- At most 16 bytes, by words from both ends that meet or overlap.
+abbrev pub max-end : ℕ
+max-end = 16
+
 unfoldable pub markEnd : ℕ → List ℕ → ℕ
 markEnd h s =
     pick (leb 8 (length s)) (mixed (mixed h (wordAt s 0) (wordAt s 4)) (wordAt s (length s - 8)) (wordAt s (length s - 4)))

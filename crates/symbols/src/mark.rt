@@ -2,14 +2,16 @@
 ghost use mathlib.Core.Path.{_≡_};
 ghost use Prim.Native.Nat.{_<_, _≤_};
 ghost use lib.ListN.{length};
-ghost use Rattle.symbols.specs.Mark.{marks, mixed, markEnd, markOf};
+ghost use Rattle.symbols.specs.Mark.{marks, max-end, mixed, markEnd, markOf};
 use wire::header::number;
 
-// Marks are below this.
 pub struct Marks;
 
 impl Marks {
+    // Marks are below this.
     pub const COUNT: u64 = u32::MAX as u64 + 1;
+    // The most bytes that are left for `end`.
+    const MAX_END: usize = 16;
 }
 
 fn mix(h: u64, v: u64, w: u64) -> u64
@@ -22,7 +24,7 @@ fn mix(h: u64, v: u64, w: u64) -> u64
 
 // The last bytes. Two reads of a fixed width that meet or overlap take less than a loop.
 fn end(h: u64, s: &[u8]) -> u64
-    requires { ⌜ (h < marks) × (length (now s) ≤ 16) ⌝ }
+    requires { ⌜ (h < marks) × (length (now s) ≤ max-end) ⌝ }
     ensures { λ r. ⌜ (r ≡ markEnd h (now (s .entry))) × (r < marks) ⌝ }
 {
     let n = s.len();
@@ -45,7 +47,7 @@ pub fn mark(s: &[u8]) -> u64
 {
     let mut h: u64 = 0;
     let mut i = 0;
-    while 16 < s.len() - i {
+    while Marks::MAX_END < s.len() - i {
         h = mix(h, number(s, i, 4), number(s, i + 4, 4));
         i += 8;
     }
