@@ -7,6 +7,7 @@ use lib.Dec.{eqb}
 use lib.ListN.{getD}
 use Rattle.format.specs.declared.row.Row.{Row}
 use Rattle.format.specs.Choice.{_&&_}
+use Rattle.format.specs.Kind as Kind
 use Rattle.format.specs.Writing.{isBad}
 use Rattle.symbols.specs.Entry.{Packed}
 use Rattle.rows.specs.declared.state.State.{State}
@@ -18,6 +19,6 @@ pub record Placed (es : List ℕ) (count i kind start number : ℕ) : Type 0 whe
 
 -- A name that rules 9 and 5 let pass.
 pub record Naming (text : List ℕ) (s : State) (r : Row) : Type 0 where
-  pub name : 10 ≤ r .kind
+  pub name : Kind.symbol ≤ r .kind
   pub fine : isBad text r ≡ false
-  pub alone : eqb (s .keyed) 1 && eqb (r .kind) 11 ≡ false
+  pub alone : eqb (s .keyed) 1 && eqb (r .kind) Kind.key ≡ false
