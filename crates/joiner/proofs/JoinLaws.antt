@@ -25,6 +25,7 @@ use Rattle.format.proofs.Joins.{together-within}
 use Rattle.format.specs.declared.written.Written.{Written}
 use Rattle.format.specs.declared.written.Written.the-variants as variant
 use Rattle.format.specs.Written as written
+use Rattle.format.specs.Limits.{max-bytes, max-rows}
 use Rattle.joiner.specs.declared.merging.Joined.{Joined}
 use Rattle.joiner.specs.declared.merging.Joined.the-variants.{Failed}
 use Rattle.joiner.specs.Answers.{answerOf}
@@ -53,7 +54,7 @@ reads bs e =
     let (u, p, q) = then-good (reading lenient bs) _ (sym e) in
     record { u = u; is = p; count = sym (ap (λ (c : Bundle). c .rows) (good-inj q)) }
 
-pub reads-few : {bs : List ℕ} {rows : ℕ} → Reads bs rows → rows ≤ 1024
+pub reads-few : {bs : List ℕ} {rows : ℕ} → Reads bs rows → rows ≤ max-rows
 unfolding start
 reads-few {bs} r = omega (arith, r .count, reads-rows (reading-reads bs (r .is) .1) (omega arith))
 
@@ -107,7 +108,7 @@ module _ {bs : List ℕ} {m : ℕ} (w : Reads bs m) where
   no-side : (capacity : ℕ) → onSide 0 (counted (fitted capacity (canonical xs))) ≡ counted (fitted capacity (canonical xs))
   unfolding onSide counted then fail
   no-side capacity =
-      order (length (canonical xs)) (min 16384 capacity)
+      order (length (canonical xs)) (min max-bytes capacity)
       (λ l. rw (fitted-fits capacity (canonical xs) l))
       (λ l. rw (fitted-over capacity (canonical xs) l))
 

@@ -7,13 +7,14 @@ use native.Mathlib.Omega.{arith}
 use lib.Dec.{ltb}
 use lib.ListN.{length, replicate, length-append}
 use Rattle.format.specs.declared.error.Error.the-variants.{OutputTooLong, TooManyEntries, TooManyRows}
-use Rattle.format.specs.Limits.{max-bytes}
+use Rattle.format.specs.Limits.{max-entries, max-rows, max-bytes}
 use Rattle.format.specs.Answer.{counted, fail, good, onSide, stored, then}
 use Rattle.format.specs.Item.{Item}
 use Rattle.format.specs.Names.{namesFrom}
 use Rattle.format.specs.Reading.{items, itemsOf, lenient}
 use Rattle.format.specs.Canonical.{canonical, canonicalFrom}
 use Rattle.format.specs.Joining.{joining, together}
+use Rattle.symbols.specs.Chains.{links-size}
 use Rattle.format.proofs.Tests.{leb-true, ltb-false}
 use Rattle.format.proofs.Lists.{length-items}
 use Rattle.format.proofs.ReadBack.{reading-reads}
@@ -51,14 +52,14 @@ module _ {a b : List ℕ} {rows : ℕ} (p : Both a b rows) where
   both-rows : length (xs ++ ys) ≡ rows
   both-rows = length-append xs ys ∙ omega (arith, length-items (p .u .found), length-items (p .v .found), p .count)
 
-  pub rows-over : (old : List ℕ) → 1024 < rows → Joins a b old (Failed TooManyRows 0 0) old
+  pub rows-over : (old : List ℕ) → max-rows < rows → Joins a b old (Failed TooManyRows 0 0) old
   unfolding counted stored then fail
   rows-over old l = let e = joined (length old) ∙ together-rows (length old) (xs ++ ys) (rw both-rows l) in record { answer = rw e; buffer = rw e }
 
   -- ---- measured
 
-  module _ (l : rows ≤ 1024) where
-    pub begun-first : (plan : List ℕ) → length plan ≡ 1024 → Begun a b a 0 [] (p .u) (replicate 256 0) (replicate 768 0) plan begun
+  module _ (l : rows ≤ max-rows) where
+    pub begun-first : (plan : List ℕ) → length plan ≡ max-rows → Begun a b a 0 [] (p .u) (replicate max-entries 0) (replicate links-size 0) plan begun
     begun-first plan n =
         record {
           bundled = record { sides = omega arith; which = side-first 0 a b refl; short = reading-reads a (p .first) .0; room = omega (arith, p .count) };
@@ -80,22 +81,22 @@ module _ {a b : List ℕ} {rows : ℕ} (p : Both a b rows) where
             before = first-tallied m;
           }
 
-    few : length (xs ++ ys) ≤ 1024
+    few : length (xs ++ ys) ≤ max-rows
     few = rw both-rows l
 
     module _ {plan : List ℕ} {t : Tally} (m : Measured p plan t) (old : List ℕ) where
-      many : 256 < t .names → 256 < length (namesFrom [] (xs ++ ys))
+      many : max-entries < t .names → max-entries < length (namesFrom [] (xs ++ ys))
       many g = go (m .measures)
         where
-          go : Measures a b xs (p .v) (m .entries) (m .links) plan t → 256 < length (namesFrom [] (xs ++ ys))
+          go : Measures a b xs (p .v) (m .entries) (m .links) plan t → max-entries < length (namesFrom [] (xs ++ ys))
           go (all k) = absurd (omega (arith, k .measured .table .table .few))
           go (over n h) = h
 
-      pub names-over : 256 < t .names → Joins a b old (Failed TooManyEntries 0 0) old
+      pub names-over : max-entries < t .names → Joins a b old (Failed TooManyEntries 0 0) old
       unfolding counted stored then fail
       names-over g = let e = joined (length old) ∙ together-names (length old) (xs ++ ys) few (many g) in record { answer = rw e; buffer = rw e }
 
-      module _ (g : t .names ≤ 256) where
+      module _ (g : t .names ≤ max-entries) where
         tallied : Tallied a b (m .entries) (m .links) plan (xs ++ ys) t
         tallied = go (m .measures)
           where
@@ -103,7 +104,7 @@ module _ {a b : List ℕ} {rows : ℕ} (p : Both a b rows) where
             go (all k) = k
             go (over n h) = absurd (omega arith)
 
-        names : length (namesFrom [] (xs ++ ys)) ≤ 256
+        names : length (namesFrom [] (xs ++ ys)) ≤ max-entries
         names = omega (arith, ap length (tallied .measured .names), length-names (tallied .measured .table .table))
 
         pub size-over : ltb (min max-bytes (length old)) (t .size) ≡ true → Joins a b old (Failed OutputTooLong 0 0) old

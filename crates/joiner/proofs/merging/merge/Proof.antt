@@ -6,6 +6,7 @@ use Rattle.joiner.proofs.MergeLaws.{rows-over, names-over, size-over, p
 use borrow.Author.Needs.{needs}
 use Rattle.joiner.proofs.merging.merge.Statement.{statement}
 use Rattle.joiner.proofs.merging.merge.Tie as tie
+use Rattle.format.specs.Limits.{max-rows}
 
 returns : tie.Need-returns
 returns c = rows-over (c .before .before .before .before .pre) _ (c .if1 .taken)
@@ -13,7 +14,7 @@ returns c = rows-over (c .before .before .before .before .pre) _ (c .if1 .taken)
 measure-both-requires : tie.Need-measure-both-requires
 measure-both-requires c κs =
     let s = c .before .before .before .before .before in
-    (record { rows = _; both = s .pre; few = c .before .if1 .left }, length-replicate {A = ℕ} 1024 0)
+    (record { rows = _; both = s .pre; few = c .before .if1 .left }, length-replicate {A = ℕ} max-rows 0)
 
 returns-2 : tie.Need-returns-2
 returns-2 c =
