@@ -14,9 +14,9 @@ use Rattle.format.specs.Names.{index, isSome}
 use Rattle.format.specs.Reading.{Found, itemsOf}
 use Rattle.format.proofs.Tests.{clash}
 use Rattle.format.proofs.Names.{item-path}
-use Rattle.symbols.specs.Entry.{plainEntry, partIn, nameIn, namesIn, name, Part, sideOf}
+use Rattle.symbols.specs.Entry.{plainEntry, Packed, partIn, nameIn, namesIn, name, Part, sideOf}
 use Rattle.symbols.specs.Noting as noting
-use Rattle.symbols.proofs.EntryLaws.{Packed, packed-plain, side-both}
+use Rattle.symbols.proofs.EntryLaws.{packed-plain, side-both}
 use Rattle.items.specs.declared.item.Out.{Out}
 use Rattle.items.specs.declared.item.Out.the-variants as out
 use Rattle.items.specs.Judging.{foundIn, entriesOf, partOf, isKnown, freshOf, Entered, known, full, entered}

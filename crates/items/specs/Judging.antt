@@ -9,7 +9,9 @@ use lib.ListN.{length, take, drop}
 use Rattle.format.specs.declared.header.Header.{Header}
 use Rattle.format.specs.declared.error.Error.the-variants.{NotCanonical, TooManyEntries, TooManyRows}
 use Rattle.format.specs.Choice.{pick, _&&_, _||_}
-use Rattle.format.specs.Limits.{max-rows}
+use Rattle.format.specs.Limits.{max-rows, max-entries}
+use Rattle.format.specs.Kind as Kind
+use Rattle.format.specs.Code as Code
 use Rattle.format.specs.Answer.{Answer, good, fail}
 use Rattle.format.specs.Header.{isLong, isNegativeAlias}
 use Rattle.format.specs.Names.{index, isSome}
@@ -31,8 +33,8 @@ entriesOf s es names = map (foundIn s) (take names es)
 
 -- A table within its limit. Strict reading has chains too, and so no name twice.
 pub record Fair (strict : Bool) (s es links : List ℕ) (names : ℕ) : Type 0 where
-  pub few : names ≤ 256
-  pub size : length es ≡ 256
+  pub few : names ≤ max-entries
+  pub size : length es ≡ max-entries
   pub chained : strict ≡ true → Chained s s es links names
 
 -- ---- one item
@@ -93,15 +95,15 @@ pub record Case (s es : List ℕ) (at names keyed next : ℕ) (h : Header) (o : 
 pub record Body (h : Header) : Type 0 where
   pub kind : ℕ
   pub form : formOf h ≡ content kind
-  pub low : kind < 10
-  pub plain : kind ≢ 8
-  pub text : leb 9 kind ≡ eqb (h .code) 4
+  pub low : kind < Kind.symbol
+  pub plain : kind ≢ Kind.container
+  pub text : leb Kind.string kind ≡ eqb (h .code) Code.string
 
 -- A header of a symbol or a key in full.
 pub record Name (h : Header) : Type 0 where
-  pub form : formOf h ≡ content (h .code + 5)
-  pub high : 5 ≤ h .code
-  pub last : h .code ≤ 6
+  pub form : formOf h ≡ content (h .code + Kind.bytes)
+  pub high : Code.symbol ≤ h .code
+  pub last : h .code ≤ Code.key
 
 -- ---- a name in full
 
@@ -109,7 +111,7 @@ abbrev pub partOf : List ℕ → ℕ → ℕ → ℕ → Found
 partOf s kind start n = record { item = record { kind = kind; number = n; content = take n (drop start s) }; start = start }
 
 unfoldable pub freshOf : ℕ → ℕ → Out
-freshOf kind next = pick (eqb kind 11) (out.NewKey next) (out.NewSymbol next)
+freshOf kind next = pick (eqb kind Kind.key) (out.NewKey next) (out.NewSymbol next)
 
 abbrev pub isKnown : List ℕ → List ℕ → ℕ → Found → Bool
 isKnown s es names x = isSome (index (x .item) (itemsOf (entriesOf s es names)))
@@ -117,6 +119,6 @@ isKnown s es names x = isSome (index (x .item) (itemsOf (entriesOf s es names)))
 -- What the table says of a name in full from one offset to another: strictly, it stands there already; there is no entry left; or it is in.
 pub data Entered (strict : Bool) (s es es′ links′ : List ℕ) (names kind next e : ℕ) (r : Out) : Type 0 where
   known : strict && isKnown s es names (partOf s kind next (e - next)) ≡ true → r ≡ out.Bad NotCanonical → Entered strict s es es′ links′ names kind next e r
-  full : strict && isKnown s es names (partOf s kind next (e - next)) ≡ false → 256 ≤ names → r ≡ out.Bad TooManyEntries → Entered strict s es es′ links′ names kind next e r
-  entered : strict && isKnown s es names (partOf s kind next (e - next)) ≡ false → names < 256 → r ≡ freshOf kind e
+  full : strict && isKnown s es names (partOf s kind next (e - next)) ≡ false → max-entries ≤ names → r ≡ out.Bad TooManyEntries → Entered strict s es es′ links′ names kind next e r
+  entered : strict && isKnown s es names (partOf s kind next (e - next)) ≡ false → names < max-entries → r ≡ freshOf kind e
       → entriesOf s es′ (names + 1) ≡ entriesOf s es names ++ (partOf s kind next (e - next) ∷ []) → Fair strict s es′ links′ (names + 1) → Entered strict s es es′ links′ names kind next e r

@@ -7,6 +7,9 @@ ghost use Prim.Native.Nat.{ℕ, _+_, _-_, _≤_, _<_};
 ghost use lib.Dec.{leb};
 ghost use lib.ListN.{length, drop};
 ghost use Rattle.format.specs.Choice.{_&&_, _||_};
+ghost use Rattle.format.specs.Kind as Kind;
+ghost use Rattle.format.specs.Code as Code;
+ghost use Rattle.format.specs.Limits.{max-bytes, max-entries, max-depth};
 ghost use Rattle.format.specs.Header.{headerOf, isLong, isNegativeAlias};
 ghost use Rattle.format.specs.Reading.{Options, State, headed, item};
 ghost use Rattle.symbols.specs.Chains.{Chained};
@@ -15,13 +18,16 @@ use format::ByteLength;
 use format::Error;
 use format::FieldCount;
 use format::Header;
+use format::Row;
 use format::SymbolTable;
+use symbols::entry::is_key;
 use symbols::entry::key_of;
 use symbols::entry::plain_entry;
 use symbols::lookup::Links;
 use symbols::lookup::Noted;
 use symbols::lookup::note;
 use wire::header::Head;
+use wire::header::kind_of;
 use wire::rules::bad_text;
 use wire::rules::key_after_key;
 
@@ -57,18 +63,18 @@ fn wasteful(strict: bool, h: Header) -> bool
     }
     let code = h.code;
     let p = h.payload;
-    if code == 2 {
-        return p == 18446744073709551615;
+    if code == Header::NEGATIVE {
+        return p == Header::NEGATIVE_ALIAS;
     }
     false
 }
 
 // A container: judged by its depth.
 fn container(h: Header, next: usize, depth: usize) -> Out
-    requires { ⌜ h .code ≡ 3 ⌝ }
+    requires { ⌜ h .code ≡ Code.container ⌝ }
     ensures moves { λ r. ⌜ ((strict : Bool) (s es links : List ℕ) (at names : ℕ) → Moved strict s es links at next names → Moves strict s es links at names depth r) ⌝ }
     ensures judged { λ r. ⌜ ((s es : List ℕ) (o : Options) (a : State) (bs : List ℕ) (at names keyed : ℕ) → Case s es at names keyed next h o a
-        → length (a .place .opened) + depth ≡ 32 → Judged o s es names a (headed o a (some h) bs) r) ⌝ }
+        → length (a .place .opened) + depth ≡ max-depth → Judged o s es names a (headed o a (some h) bs) r) ⌝ }
 {
     if depth == 0 {
         return Out::Bad(Error::TooDeep);
@@ -89,7 +95,7 @@ fn reference(
     keyed: usize,
     entries: &[u64; SymbolTable::MAX_ENTRIES],
 ) -> Out
-    requires { ⌜ (h .code ≡ 7) × (names ≤ 256) × (length (now entries) ≡ 256) ⌝ }
+    requires { ⌜ (h .code ≡ Code.reference) × (names ≤ max-entries) × (length (now entries) ≡ max-entries) ⌝ }
     ensures moves { λ r. ⌜ ((strict : Bool) (s links : List ℕ) (at depth : ℕ) → Moved strict s (now (entries .entry)) links at next names → Moves strict s (now (entries .entry)) links at names depth r) ⌝ }
     ensures judged { λ r. ⌜ ((s : List ℕ) (o : Options) (a : State) (bs : List ℕ) (at : ℕ) → Case s (now (entries .entry)) at names keyed next h o a
         → Judged o s (now (entries .entry)) names a (headed o a (some h) bs) r) ⌝ }
@@ -99,8 +105,7 @@ fn reference(
         return Out::Bad(Error::UndefinedReference);
     }
     let i = p as usize;
-    let e = entries[i];
-    if e % 2 == 0 {
+    if !is_key(entries[i]) {
         return Out::Value(next);
     }
     if keyed == 1 {
@@ -111,7 +116,7 @@ fn reference(
 
 // Bytes or a string.
 fn content(s: &[u8], h: Header, next: usize) -> Out
-    requires { ⌜ Body h × (next ≤ length (now s)) × (length (now s) ≤ 16384) ⌝ }
+    requires { ⌜ Body h × (next ≤ length (now s)) × (length (now s) ≤ max-bytes) ⌝ }
     ensures moves { λ r. ⌜ ((strict : Bool) (es links : List ℕ) (at names depth : ℕ) → Moved strict (now (s .entry)) es links at next names → Moves strict (now (s .entry)) es links at names depth r) ⌝ }
     ensures judged { λ r. ⌜ ((es : List ℕ) (o : Options) (a : State) (at names keyed : ℕ) → Case (now (s .entry)) es at names keyed next h o a
         → Judged o (now (s .entry)) es names a (headed o a (some h) (drop at (now (s .entry)))) r) ⌝ }
@@ -122,7 +127,7 @@ fn content(s: &[u8], h: Header, next: usize) -> Out
         return Out::Bad(Error::Truncated);
     }
     let e = next + p as usize;
-    if bad_text(h.code == 4, &s[next..e]) {
+    if bad_text(h.code == Header::STRING, &s[next..e]) {
         return Out::Bad(Error::InvalidUtf8);
     }
     Out::Value(e)
@@ -132,7 +137,7 @@ fn content(s: &[u8], h: Header, next: usize) -> Out
 fn fresh(kind: u8, next: usize) -> Out
     ensures { λ r. ⌜ r ≡ freshOf kind next ⌝ }
 {
-    if kind == 11 {
+    if kind == Row::KEY {
         return Out::NewKey(next);
     }
     Out::NewSymbol(next)
@@ -148,7 +153,7 @@ fn new_name(
     entries: &mut [u64; SymbolTable::MAX_ENTRIES],
     links: &mut [u16; Links::SIZE],
 ) -> Out
-    requires { ⌜ (10 ≤ kind) × (kind ≤ 11) × (next ≤ e) × (e ≤ length (now s)) × (length (now s) ≤ 16384) × Chained (now s) (now s) (now entries) (now links) names ⌝ }
+    requires { ⌜ (Kind.symbol ≤ kind) × (kind ≤ Kind.key) × (next ≤ e) × (e ≤ length (now s)) × (length (now s) ≤ max-bytes) × Chained (now s) (now s) (now entries) (now links) names ⌝ }
     ensures { λ r. ⌜ Entered true (now (s .entry)) (now (entries .entry)) (now (entries .exit)) (now (links .exit)) names kind next e r ⌝ }
 {
     let part = &s[next..e];
@@ -168,7 +173,7 @@ fn any_name(
     names: usize,
     entries: &mut [u64; SymbolTable::MAX_ENTRIES],
 ) -> Out
-    requires { ⌜ (10 ≤ kind) × (kind ≤ 11) × (next ≤ e) × (e ≤ 16384) × (names ≤ 256) ⌝ }
+    requires { ⌜ (Kind.symbol ≤ kind) × (kind ≤ Kind.key) × (next ≤ e) × (e ≤ max-bytes) × (names ≤ max-entries) ⌝ }
     ensures { λ r. ⌜ ((s links : List ℕ) → e ≤ length s → Fair false s (now (entries .entry)) links names
         → Entered false s (now (entries .entry)) (now (entries .exit)) links names kind next e r) ⌝ }
 {
@@ -190,12 +195,12 @@ fn name(
     entries: &mut [u64; SymbolTable::MAX_ENTRIES],
     links: &mut [u16; Links::SIZE],
 ) -> Out
-    requires { ⌜ Name h × (next ≤ length (now s)) × (length (now s) ≤ 16384) × Fair strict (now s) (now entries) (now links) names ⌝ }
+    requires { ⌜ Name h × (next ≤ length (now s)) × (length (now s) ≤ max-bytes) × Fair strict (now s) (now entries) (now links) names ⌝ }
     ensures moves { λ r. ⌜ ((at depth : ℕ) → at < next → Moves strict (now (s .entry)) (now (entries .exit)) (now (links .exit)) at names depth r) ⌝ }
     ensures judged { λ r. ⌜ ((o : Options) (a : State) (at : ℕ) → o .strict ≡ strict → Case (now (s .entry)) (now (entries .entry)) at names keyed next h o a
         → Judged o (now (s .entry)) (now (entries .exit)) names a (headed o a (some h) (drop at (now (s .entry)))) r) ⌝ }
 {
-    let kind = h.code + 5;
+    let kind = kind_of(h.code);
     if key_after_key(keyed, kind) {
         return Out::Bad(Error::UnexpectedKey);
     }
@@ -215,12 +220,12 @@ fn name(
 }
 
 pub fn is_integer(code: u8) -> bool
-    ensures { λ r. ⌜ r ≡ (leb 1 code && leb code 2) ⌝ }
+    ensures { λ r. ⌜ r ≡ (leb Code.positive code && leb code Code.negative) ⌝ }
 {
-    if code < 1 {
+    if code < Header::POSITIVE {
         return false;
     }
-    code <= 2
+    code <= Header::NEGATIVE
 }
 
 // The item of a header that stands at an offset.
@@ -235,9 +240,9 @@ fn judge(
     entries: &mut [u64; SymbolTable::MAX_ENTRIES],
     links: &mut [u16; Links::SIZE],
 ) -> Out
-    requires { ⌜ (some h ≡ headerOf (drop at (now s))) × (at ≤ length (now s)) × (length (now s) ≤ 16384) × Fair strict (now s) (now entries) (now links) names ⌝ }
+    requires { ⌜ (some h ≡ headerOf (drop at (now s))) × (at ≤ length (now s)) × (length (now s) ≤ max-bytes) × Fair strict (now s) (now entries) (now links) names ⌝ }
     ensures moves { λ r. ⌜ Moves strict (now (s .entry)) (now (entries .exit)) (now (links .exit)) at names depth r ⌝ }
-    ensures judged { λ r. ⌜ ((o : Options) (a : State) → o .strict ≡ strict → Stands (now (s .entry)) (now (entries .entry)) at names keyed a → length (a .place .opened) + depth ≡ 32
+    ensures judged { λ r. ⌜ ((o : Options) (a : State) → o .strict ≡ strict → Stands (now (s .entry)) (now (entries .entry)) at names keyed a → length (a .place .opened) + depth ≡ max-depth
         → Judged o (now (s .entry)) (now (entries .exit)) names a (headed o a (some h) (drop at (now (s .entry)))) r) ⌝ }
 {
     if wasteful(strict, h) {
@@ -249,20 +254,20 @@ fn judge(
         return Out::Value(next);
     }
     // most items first
-    if code == 7 {
+    if code == Header::REFERENCE {
         return reference(h, next, names, keyed, entries);
     }
-    if 5 <= code {
+    if Header::SYMBOL <= code {
         return name(s, strict, h, next, names, keyed, entries, links);
     }
-    if code == 4 {
+    if code == Header::STRING {
         return content(s, h, next);
     }
-    if code == 3 {
+    if code == Header::CONTAINER {
         return container(h, next, depth);
     }
     let sz = h.sz;
-    if sz < 5 {
+    if sz < Row::BYTES {
         return Out::Value(next);
     }
     content(s, h, next)
@@ -279,9 +284,9 @@ pub fn one(
     entries: &mut [u64; SymbolTable::MAX_ENTRIES],
     links: &mut [u16; Links::SIZE],
 ) -> Out
-    requires { ⌜ (at ≤ length (now s)) × (length (now s) ≤ 16384) × Fair strict (now s) (now entries) (now links) names ⌝ }
+    requires { ⌜ (at ≤ length (now s)) × (length (now s) ≤ max-bytes) × Fair strict (now s) (now entries) (now links) names ⌝ }
     ensures moves { λ r. ⌜ Moves strict (now (s .entry)) (now (entries .exit)) (now (links .exit)) at names depth r ⌝ }
-    ensures judged { λ r. ⌜ ((o : Options) (a : State) → o .strict ≡ strict → Stands (now (s .entry)) (now (entries .entry)) at names keyed a → length (a .place .opened) + depth ≡ 32
+    ensures judged { λ r. ⌜ ((o : Options) (a : State) → o .strict ≡ strict → Stands (now (s .entry)) (now (entries .entry)) at names keyed a → length (a .place .opened) + depth ≡ max-depth
         → Judged o (now (s .entry)) (now (entries .exit)) names a (item o a (drop at (now (s .entry)))) r) ⌝ }
 {
     match wire::header::header_at(s, at) {

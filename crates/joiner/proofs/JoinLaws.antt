@@ -24,6 +24,7 @@ use Rattle.format.specs.declared.written.Written.{Written}
 use Rattle.format.specs.declared.written.Written.the-variants.{Failed}
 use Rattle.format.specs.Written.{Writes}
 use Rattle.format.specs.Demand3.{Joins}
+use Rattle.format.specs.Limits.{max-rows}
 use Rattle.joiner.specs.Merging.{Both}
 
 -- ---- what checking says
@@ -48,7 +49,7 @@ reads bs e =
     let (u, p, q) = then-good (reading lenient bs) _ (sym e) in
     record { u = u; is = p; count = sym (ap (λ (c : Bundle). c .rows) (good-inj q)) }
 
-pub reads-few : {bs : List ℕ} {rows : ℕ} → Reads bs rows → rows ≤ 1024
+pub reads-few : {bs : List ℕ} {rows : ℕ} → Reads bs rows → rows ≤ max-rows
 unfolding start
 reads-few {bs} r = omega (arith, r .count, reads-rows (reading-reads bs (r .is) .1) (omega arith))
 

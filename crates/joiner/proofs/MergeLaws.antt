@@ -8,13 +8,14 @@ use lib.Dec.{ltb}
 use lib.ListN.{length, replicate, length-append}
 use Rattle.format.specs.declared.error.Error.{Error}
 use Rattle.format.specs.declared.error.Error.the-variants.{OutputTooLong, TooManyEntries, TooManyRows}
-use Rattle.format.specs.Limits.{max-bytes}
+use Rattle.format.specs.Limits.{max-entries, max-rows, max-bytes}
 use Rattle.format.specs.Answer.{counted, fail, good, onSide, stored, then}
 use Rattle.format.specs.Item.{Item}
 use Rattle.format.specs.Names.{namesFrom}
 use Rattle.format.specs.Reading.{items, itemsOf, lenient}
 use Rattle.format.specs.Canonical.{canonical, canonicalFrom}
 use Rattle.format.specs.Joining.{joining, together}
+use Rattle.symbols.specs.Chains.{links-size}
 use Rattle.format.proofs.Tests.{leb-true, ltb-false}
 use Rattle.format.proofs.Lists.{length-items}
 use Rattle.format.proofs.ReadBack.{reading-reads}
@@ -58,13 +59,13 @@ module _ {a b : List ℕ} {rows : ℕ} (p : Both a b rows) where
   unfolding counted stored then fail
   refused old k q t = let e = joined (length old) ∙ t in record { answer = q ∙ rw e; buffer = rw e }
 
-  pub rows-over : (old : List ℕ) {r : Written} → answerOf r ≡ fail TooManyRows 0 → 1024 < rows → Joins lenient a b old r old
+  pub rows-over : (old : List ℕ) {r : Written} → answerOf r ≡ fail TooManyRows 0 → max-rows < rows → Joins lenient a b old r old
   rows-over old q l = refused old TooManyRows q (together-rows (length old) (xs ++ ys) (rw both-rows l))
 
   -- ---- measured
 
-  module _ (l : rows ≤ 1024) where
-    pub begun-first : (plan : List ℕ) → length plan ≡ 1024 → Begun a b a 0 [] (p .u) (replicate 256 0) (replicate 768 0) plan begun
+  module _ (l : rows ≤ max-rows) where
+    pub begun-first : (plan : List ℕ) → length plan ≡ max-rows → Begun a b a 0 [] (p .u) (replicate max-entries 0) (replicate links-size 0) plan begun
     begun-first plan n =
         record {
           bundled = record { sides = omega arith; which = side-first 0 a b refl; short = reading-reads a (p .first) .0; room = omega (arith, p .count) };
@@ -86,21 +87,21 @@ module _ {a b : List ℕ} {rows : ℕ} (p : Both a b rows) where
             before = first-tallied m;
           }
 
-    few : length (xs ++ ys) ≤ 1024
+    few : length (xs ++ ys) ≤ max-rows
     few = rw both-rows l
 
     module _ {plan : List ℕ} {t : Tally} (m : Measured p plan t) (old : List ℕ) where
-      many : 256 < t .names → 256 < length (namesFrom [] (xs ++ ys))
+      many : max-entries < t .names → max-entries < length (namesFrom [] (xs ++ ys))
       many g = go (m .measures)
         where
-          go : Measures a b xs (p .v) (m .entries) (m .links) plan t → 256 < length (namesFrom [] (xs ++ ys))
+          go : Measures a b xs (p .v) (m .entries) (m .links) plan t → max-entries < length (namesFrom [] (xs ++ ys))
           go (all k) = absurd (omega (arith, k .measured .table .table .few))
           go (over n h) = h
 
-      pub names-over : {r : Written} → answerOf r ≡ fail TooManyEntries 0 → 256 < t .names → Joins lenient a b old r old
+      pub names-over : {r : Written} → answerOf r ≡ fail TooManyEntries 0 → max-entries < t .names → Joins lenient a b old r old
       names-over q g = refused old TooManyEntries q (together-names (length old) (xs ++ ys) few (many g))
 
-      module _ (g : t .names ≤ 256) where
+      module _ (g : t .names ≤ max-entries) where
         tallied : Tallied a b (m .entries) (m .links) plan (xs ++ ys) t
         tallied = go (m .measures)
           where
@@ -108,7 +109,7 @@ module _ {a b : List ℕ} {rows : ℕ} (p : Both a b rows) where
             go (all k) = k
             go (over n h) = absurd (omega arith)
 
-        names : length (namesFrom [] (xs ++ ys)) ≤ 256
+        names : length (namesFrom [] (xs ++ ys)) ≤ max-entries
         names = omega (arith, ap length (tallied .measured .names), length-names (tallied .measured .table .table))
 
         pub size-over : {r : Written} → answerOf r ≡ fail OutputTooLong 0 → ltb (min max-bytes (length old)) (t .size) ≡ true → Joins lenient a b old r old

@@ -3,6 +3,7 @@ use Prim.Native.Nat.{ℕ, _+_, _≤_}
 use mathlib.Core.Path.{_≡_}
 use mathlib.Core.List.{List, [], _++_}
 use lib.ListN.{length}
+use Rattle.format.specs.Limits.{max-rows, max-entries}
 use Rattle.format.specs.Answer.{good}
 use Rattle.format.specs.Item.{Item}
 use Rattle.format.specs.Names.{namesFrom}
@@ -36,7 +37,7 @@ itemsOfBoth p = itemsOf (p .u .found) ++ itemsOf (p .v .found)
 pub record Fitting (a b : List ℕ) : Type 0 where
   pub rows : ℕ
   pub both : Both a b rows
-  pub few : rows ≤ 1024
+  pub few : rows ≤ max-rows
 
 -- Both are measured.
 pub record Measured {a b : List ℕ} {rows : ℕ} (p : Both a b rows) (plan : List ℕ) (t : Tally) : Type 0 where
@@ -46,9 +47,9 @@ pub record Measured {a b : List ℕ} {rows : ℕ} (p : Both a b rows) (plan : Li
 
 -- Both are planned, and fit the buffer.
 pub record Planned {a b : List ℕ} {rows : ℕ} (p : Both a b rows) (plan : List ℕ) (capacity : ℕ) : Type 0 where
-  pub size : length plan ≡ 1024
+  pub size : length plan ≡ max-rows
   pub planned : encoder.Planned plan (itemsOfBoth p)
-  pub few : length (namesFrom [] (itemsOfBoth p)) ≤ 256
+  pub few : length (namesFrom [] (itemsOfBoth p)) ≤ max-entries
   pub fits : length (canonical (itemsOfBoth p)) ≤ capacity
 
 pub record Ready (a b plan : List ℕ) (capacity : ℕ) : Type 0 where

@@ -4,6 +4,7 @@ ghost use Prim.Native.Nat.{ℕ, _≤_};
 ghost use lib.ListN.{length};
 ghost use Rattle.format.specs.Demand3.{Joins};
 ghost use Rattle.format.specs.Reading.{lenient};
+ghost use Rattle.format.specs.Limits.{max-rows};
 ghost use Rattle.joiner.specs.Merging.{Both, Fitting, Measured, Ready, Planned, Put, begun, top};
 use encoder::fitting::is_over;
 use format::Error;
@@ -41,10 +42,10 @@ fn start() -> Spot
 
 // Measures both bundles, and plans how their names are written.
 fn measure_both<'a>(first: &'a [u8], second: &'a [u8], plan: &mut [u16; Row::MAX_COUNT]) -> Tally
-    requires { ⌜ Fitting (now first) (now second) × (length (now plan) ≡ 1024) ⌝ }
-    ensures { λ r. ⌜ ((rows : ℕ) (p : Both (now (first .entry)) (now (second .entry)) rows) → rows ≤ 1024 → Measured p (now (plan .exit)) r) ⌝ }
+    requires { ⌜ Fitting (now first) (now second) × (length (now plan) ≡ max-rows) ⌝ }
+    ensures { λ r. ⌜ ((rows : ℕ) (p : Both (now (first .entry)) (now (second .entry)) rows) → rows ≤ max-rows → Measured p (now (plan .exit)) r) ⌝ }
 {
-    let mut entries = [0u64; SymbolTable::MAX_ENTRIES];
+    let mut entries = SymbolTable::new();
     let mut links = [0u16; Links::SIZE];
     let t = begin();
     let t = measure(first, second, first, 0, &mut entries, &mut links, plan, t);

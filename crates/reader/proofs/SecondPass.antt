@@ -22,8 +22,8 @@ use Rattle.format.proofs.Forms.{FormIs, held, form-is}
 use Rattle.format.proofs.Steps.{Step, Reads, done, more, step-drop, step-found}
 use Rattle.format.proofs.Bounds.{reads-rows}
 use Rattle.format.proofs.ReadBack.{reading-reads}
-use Rattle.symbols.specs.Entry.{plainEntry, nameIn}
-use Rattle.symbols.proofs.EntryLaws.{Packed, packed-plain}
+use Rattle.symbols.specs.Entry.{plainEntry, Packed, nameIn}
+use Rattle.symbols.proofs.EntryLaws.{packed-plain}
 use Rattle.reader.specs.declared.fill.Filled.{Filled}
 use Rattle.items.specs.Judging.{foundIn, entriesOf, partOf}
 use Rattle.reader.specs.Answers.{rowsIn}

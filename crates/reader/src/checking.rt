@@ -30,6 +30,13 @@ impl Checked {
     }
 }
 
+// How many fields are asked for at the top: more than there are bytes, so that the bytes end first.
+struct Top;
+
+impl Top {
+    const FIELDS: u64 = Bundle::MAX_BYTES as u64 + 1;
+}
+
 // The counts of a bundle of which most rows may be read.
 pub fn walk(bytes: &[u8], mode: Mode, most: usize) -> Checked
     requires { ⌜ most ≤ max-rows ⌝ }
@@ -38,15 +45,14 @@ pub fn walk(bytes: &[u8], mode: Mode, most: usize) -> Checked
     if Bundle::MAX_BYTES < bytes.len() {
         return Checked::fail(Error::TooLong, 0);
     }
-    let mut entries = [0u64; SymbolTable::MAX_ENTRIES];
+    let mut entries = SymbolTable::new();
     let mut links = [0u16; Links::SIZE];
     let strict = mode.is_strict();
-    // more fields than there are bytes, so that the bytes end first
     match crate::fields::fields(
         bytes,
         strict,
         Bundle::MAX_DEPTH,
-        FieldCount(16385),
+        FieldCount(Top::FIELDS),
         0,
         0,
         most,
@@ -58,11 +64,7 @@ pub fn walk(bytes: &[u8], mode: Mode, most: usize) -> Checked
             if u.keyed == 1 {
                 return Checked::fail(Error::Truncated, u.at);
             }
-            Checked::Good(Bundle {
-                rows: most - u.rows,
-                entries: u.names,
-                fields: (16385 - left) as usize,
-            })
+            Checked::Good(Bundle::new(most - u.rows, u.names, (Top::FIELDS - left) as usize))
         }
         Step::Good(u) => Checked::fail(Error::Truncated, u.at),
     }

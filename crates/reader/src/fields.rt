@@ -3,7 +3,7 @@ ghost use mathlib.Core.Path.{_≡_};
 ghost use mathlib.Core.Bool.{Bool, false};
 ghost use Prim.Native.Nat.{ℕ, _+_, _-_, _≤_, _<_, min};
 ghost use lib.ListN.{length};
-ghost use Rattle.format.specs.Limits.{max-rows};
+ghost use Rattle.format.specs.Limits.{max-bytes, max-rows};
 ghost use Rattle.format.specs.Place.{Place};
 ghost use Rattle.format.specs.Reading.{Options, State};
 ghost use Rattle.items.specs.Judging.{Fair, Stands};
@@ -41,7 +41,7 @@ pub fn fields(
     entries: &mut [u64; SymbolTable::MAX_ENTRIES],
     links: &mut [u16; Links::SIZE],
 ) -> Step
-    requires { ⌜ (from ≤ length (now s)) × (length (now s) ≤ 16384) × Fair strict (now s) (now entries) (now links) known ⌝ }
+    requires { ⌜ (from ≤ length (now s)) × (length (now s) ≤ max-bytes) × Fair strict (now s) (now entries) (now links) known ⌝ }
     ensures went { λ r. ⌜ Went strict (now (s .entry)) (now (entries .exit)) (now (links .exit)) from (count .0) r ⌝ }
     ensures resumes { λ r. ⌜ ((Q : ℕ → Bool → Place) (o : Options) (a : State) → o .strict ≡ strict → Lane Q depth (count .0) → Stands (now (s .entry)) (now (entries .entry)) from known 0 a
         → length (a .found) + free ≡ min max-rows (o .capacity) → a .place ≡ Q (count .0) false

@@ -14,6 +14,7 @@ use Rattle.format.specs.declared.error.Error.{Error}
 use Rattle.format.specs.declared.error.Error.the-variants.{InvalidRow, InvalidUtf8, TooDeep, TooManyEntries, UnexpectedKey}
 use Rattle.format.specs.Choice.{pick, _&&_}
 use Rattle.format.specs.Error.{codeOf}
+use Rattle.format.specs.Kind as Kind
 use Rattle.format.specs.Answer.{failure, rule, first, fail, unless, then}
 use Rattle.format.specs.Utf8.{utf8}
 use Rattle.format.specs.Item.{Item, isText, isName, isKey, isContainer}
@@ -22,6 +23,8 @@ use Rattle.format.specs.Names.{noted}
 use Rattle.format.specs.Place.{keyAfterKey, tooDeep, moved}
 use Rattle.format.specs.Rows.{itemAt}
 use Rattle.format.specs.Writing.{isBad, Progress, begin, withItem, rowRules, judge}
+use Rattle.format.specs.Limits.{max-depth, max-entries, max-rows}
+use Rattle.rows.specs.Plan.{plan-size}
 use Rattle.format.proofs.Tests.{cases, eqb-yes, eqb-no, leb-no, ltb-yes, ltb-no, and-no-left, and-no-right, pick-yes, pick-no, applied-none}
 use Rattle.format.proofs.Names.{noted-plain}
 use Rattle.symbols.proofs.ChainLaws.{length-names}
@@ -30,7 +33,7 @@ use Rattle.rows.specs.declared.state.State.{State}
 use Rattle.rows.specs.Stack.{bottom, Stands}
 use Rattle.rows.specs.Steps.{refused, valued, keyedBy, namedBy, openedBy}
 use Rattle.encoder.specs.Plan.{Measured}
-use Rattle.rows.specs.Judging.{After, Next, Ready, RowError, invalid-row, invalid-utf8, too-deep, too-many-entries, unexpected-key}
+use Rattle.rows.specs.Judging.{After, Next, Ready, RowError, invalid-row, invalid-utf8, too-deep, too-many-entries, unexpected-key, max-item}
 use Rattle.rows.proofs.StackLaws.{opened-length, stands-value, stands-key, stands-open}
 use Rattle.encoder.proofs.MeasureLaws.{names-more, measure-plain}
 
@@ -60,11 +63,11 @@ module _ (text : List ℕ) (p : Progress) (r : Row) where
         rule-3 h = rw (fine, keys, flat, h)
 
         module _ (texts : isText (itemAt text r) && not (utf8 (itemAt text r .content)) ≡ false) where
-          pub rule-8 : 256 < length (noted (itemAt text r) (p .names)) → first (rowRules text p r) ≡ some (failure TooManyEntries (p .row))
+          pub rule-8 : max-entries < length (noted (itemAt text r) (p .names)) → first (rowRules text p r) ≡ some (failure TooManyEntries (p .row))
           unfolding rowRules first rule pick withItem
           rule-8 h = rw (fine, keys, flat, texts, ltb-yes h)
 
-          pub rule-none : length (noted (itemAt text r) (p .names)) ≤ 256 → first (rowRules text p r) ≡ none
+          pub rule-none : length (noted (itemAt text r) (p .names)) ≤ max-entries → first (rowRules text p r) ≡ none
           unfolding rowRules first rule pick withItem
           rule-none h = rw (fine, keys, flat, texts, ltb-no h)
 
@@ -106,9 +109,9 @@ module _ {text es links st plan : List ℕ} {xs : List Row} {s : State} (a : Aft
 
   -- it is taken
   pub take-next : {es′ links′ st′ plan′ : List ℕ} (t : State) → first (rowRules text (a .progress) r) ≡ none
-      → t .error ≡ 0 → t .row ≡ s .row + 1 → t .end ≡ s .end → t .size ≤ s .size + 16393
+      → t .error ≡ 0 → t .row ≡ s .row + 1 → t .end ≡ s .end → t .size ≤ s .size + max-item
       → Stands st′ (t .depth) (t .left) (t .keyed) (t .row) (moved (a .progress .place) (itemAt text r))
-      → Measured 1533 text text es′ links′ plan′ (a .progress .items ++ (itemAt text r ∷ [])) (t .names) (t .size)
+      → Measured plan-size text text es′ links′ plan′ (a .progress .items ++ (itemAt text r ∷ [])) (t .names) (t .size)
       → Next text es′ links′ st′ plan′ xs r s t
   unfolding withItem
   take-next t rules e0 er ee small stands measured =
@@ -139,29 +142,29 @@ pub next-row : {text es links st plan : List ℕ} {xs : List Row} {q r : Row} {s
 next-row {text} {es} {links} {st} {plan} {xs} {q} {r} {s} {t} e = subst (λ (z : Row). Next text es links st plan xs z s t) e
 
 -- A state that is ready takes one item more.
-pub ready-more : {text st : List ℕ} {s : State} → Ready text st s → (n : ℕ) → n ≤ 16393
-    → (length st ≡ 32) × (s .depth ≤ 32) × (2 ≤ bottom st (s .depth) (s .left)) × (s .row + 1 < 2 ^ 64) × (s .size + n < 2 ^ 64)
+pub ready-more : {text st : List ℕ} {s : State} → Ready text st s → (n : ℕ) → n ≤ max-item
+    → (length st ≡ max-depth) × (s .depth ≤ max-depth) × (2 ≤ bottom st (s .depth) (s .left)) × (s .row + 1 < 2 ^ 64) × (s .size + n < 2 ^ 64)
 ready-more w n l = (w .stack, w .deep, w .top, omega (arith, w .row), omega (arith, w .small, w .row))
 
 module _ {text es links st plan : List ℕ} {xs : List Row} {s : State} (a : After text es links st plan xs s) (r : Row) where
-  pub value-next : {es′ links′ plan′ : List ℕ} (c n : ℕ) {t : State} → t ≡ valued st s c n → s .row < 1024 → n ≤ 16393
+  pub value-next : {es′ links′ plan′ : List ℕ} (c n : ℕ) {t : State} → t ≡ valued st s c n → s .row < max-rows → n ≤ max-item
       → first (rowRules text (a .progress) r) ≡ none → isKey (itemAt text r) ≡ false → isContainer (itemAt text r) && ltb 0 (r .number) ≡ false
-      → Measured 1533 text text es′ links′ plan′ (a .progress .items ++ (itemAt text r ∷ [])) c (s .size + n) → Next text es′ links′ st plan′ xs r s t
+      → Measured plan-size text text es′ links′ plan′ (a .progress .items ++ (itemAt text r ∷ [])) c (s .size + n) → Next text es′ links′ st plan′ xs r s t
   unfolding valued itemAt
   value-next c n e lt l rules key box m = rw e (take-next a r (valued st s c n) rules refl refl refl (omega arith) (stands-value (a .stands) (itemAt text r) lt key box) m)
 
-  pub named-next : {es′ links′ plan′ : List ℕ} (c n : ℕ) {t : State} → t ≡ namedBy st s (r .kind) c n → s .row < 1024 → n ≤ 16393 → r .kind ≢ 8
+  pub named-next : {es′ links′ plan′ : List ℕ} (c n : ℕ) {t : State} → t ≡ namedBy st s (r .kind) c n → s .row < max-rows → n ≤ max-item → r .kind ≢ Kind.container
       → first (rowRules text (a .progress) r) ≡ none
-      → Measured 1533 text text es′ links′ plan′ (a .progress .items ++ (itemAt text r ∷ [])) c (s .size + n) → Next text es′ links′ st plan′ xs r s t
+      → Measured plan-size text text es′ links′ plan′ (a .progress .items ++ (itemAt text r ∷ [])) c (s .size + n) → Next text es′ links′ st plan′ xs r s t
   unfolding namedBy keyedBy itemAt isKey isContainer
   named-next c n e lt l box rules m =
-      cases (eqb (r .kind) 11)
+      cases (eqb (r .kind) Kind.key)
       (λ k. rw (e ∙ pick-yes _ _ k) (take-next a r (keyedBy s c n) rules refl refl refl (omega arith) (stands-key (a .stands) (itemAt text r) k) m))
       (λ k. value-next c n (e ∙ pick-no _ _ k) lt l rules k (and-no-left _ (eqb-no box)) m)
 
-  pub open-next : (n : ℕ) {st′ : List ℕ} {t : State} → t ≡ openedBy s (r .number) n → st′ ≡ set st (s .depth) (s .left) → s .depth < 32 → n ≤ 16393
+  pub open-next : (n : ℕ) {st′ : List ℕ} {t : State} → t ≡ openedBy s (r .number) n → st′ ≡ set st (s .depth) (s .left) → s .depth < max-depth → n ≤ max-item
       → first (rowRules text (a .progress) r) ≡ none → isKey (itemAt text r) ≡ false → isContainer (itemAt text r) && ltb 0 (r .number) ≡ true
-      → Measured 1533 text text es links plan (a .progress .items ++ (itemAt text r ∷ [])) (s .names) (s .size + n) → Next text es links st′ plan xs r s t
+      → Measured plan-size text text es links plan (a .progress .items ++ (itemAt text r ∷ [])) (s .names) (s .size + n) → Next text es links st′ plan xs r s t
   unfolding openedBy itemAt
   open-next n e f lt l rules key box m = rw (e, f) (take-next a r (openedBy s (r .number) n) rules refl refl refl (omega arith) (stands-open (a .stands) (itemAt text r) key box lt) m)
 
@@ -173,25 +176,25 @@ module _ {text es links st plan : List ℕ} {xs : List Row} {s : State} (a : Aft
   pub items-count : length (a .progress .items) ≡ s .row
   items-count = ap length (a .items) ∙ length-map xs (itemAt text) ∙ a .rows
 
-  pub keys-are : keyAfterKey (a .progress .place) (itemAt text r) ≡ (eqb (s .keyed) 1 && eqb (r .kind) 11)
+  pub keys-are : keyAfterKey (a .progress .place) (itemAt text r) ≡ (eqb (s .keyed) 1 && eqb (r .kind) Kind.key)
   unfolding itemAt isKey
-  keys-are = ap (λ b. b && eqb (r .kind) 11) (a .stands .key)
+  keys-are = ap (λ b. b && eqb (r .kind) Kind.key) (a .stands .key)
 
-  pub depth-is : tooDeep (a .progress .place) (itemAt text r) ≡ (eqb (r .kind) 8 && leb 32 (s .depth))
+  pub depth-is : tooDeep (a .progress .place) (itemAt text r) ≡ (eqb (r .kind) Kind.container && leb max-depth (s .depth))
   unfolding itemAt isContainer
-  depth-is = ap (λ n. eqb (r .kind) 8 && leb 32 n) (ap length (a .stands .opened) ∙ opened-length st (s .depth) (s .left))
+  depth-is = ap (λ n. eqb (r .kind) Kind.container && leb max-depth n) (ap length (a .stands .opened) ∙ opened-length st (s .depth) (s .left))
 
-  pub no-container : r .kind ≢ 8 → isContainer (itemAt text r) && ltb 0 (r .number) ≡ false
+  pub no-container : r .kind ≢ Kind.container → isContainer (itemAt text r) && ltb 0 (r .number) ≡ false
   unfolding itemAt isContainer
   no-container n = and-no-left _ (eqb-no n)
 
-  pub a-container : r .kind ≡ 8 → isContainer (itemAt text r) && ltb 0 (r .number) ≡ ltb 0 (r .number)
+  pub a-container : r .kind ≡ Kind.container → isContainer (itemAt text r) && ltb 0 (r .number) ≡ ltb 0 (r .number)
   unfolding itemAt isContainer _&&_
   a-container e = rw (eqb-yes e)
 
   -- ---- a row that is no name
 
-  module _ (lo : r .kind < 10) where
+  module _ (lo : r .kind < Kind.symbol) where
     pub no-key : isKey (itemAt text r) ≡ false
     unfolding itemAt isKey
     no-key = eqb-no {a = r .kind} {b = 11} (λ e. omega arith)
@@ -203,8 +206,8 @@ module _ {text es links st plan : List ℕ} {xs : List Row} {s : State} (a : Aft
     unfolding itemAt isName
     no-name = leb-no lo
 
-    pub few-names : length (noted (itemAt text r) (a .progress .names)) ≤ 256
+    pub few-names : length (noted (itemAt text r) (a .progress .names)) ≤ max-entries
     few-names = omega (arith, ap length (noted-plain (itemAt text r) (a .progress .names) no-name), names-count, a .measured .table .table .few)
 
-    pub measured-plain : (n : ℕ) → s .row < 1024 → n ≡ length (full (itemAt text r)) → Measured 1533 text text es links plan (a .progress .items ++ (itemAt text r ∷ [])) (s .names) (s .size + n)
+    pub measured-plain : (n : ℕ) → s .row < max-rows → n ≡ length (full (itemAt text r)) → Measured plan-size text text es links plan (a .progress .items ++ (itemAt text r ∷ [])) (s .names) (s .size + n)
     measured-plain n lt e = measure-plain (a .measured) (itemAt text r) (omega (arith, items-count)) n no-name e

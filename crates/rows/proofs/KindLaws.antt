@@ -10,6 +10,8 @@ use lib.Dec.{eqb, ltb}
 use lib.ListN.{length, length-append}
 use Rattle.format.specs.declared.row.Row.{Row}
 use Rattle.format.specs.declared.error.Error.the-variants.{InvalidUtf8, TooDeep, TooManyEntries, UnexpectedKey}
+use Rattle.format.specs.Code as Code
+use Rattle.format.specs.Kind as Kind
 use Rattle.format.specs.Choice.{_&&_, _||_}
 use Rattle.format.specs.Answer.{failure, first}
 use Rattle.format.specs.Header.{header}
@@ -20,10 +22,11 @@ use Rattle.format.specs.Canonical.{full}
 use Rattle.format.specs.Place.{tooDeep}
 use Rattle.format.specs.Rows.{contentOf, itemAt}
 use Rattle.format.specs.Writing.{isBad, rowRules}
+use Rattle.format.specs.Limits.{max-bytes, max-depth, max-entries}
 use Rattle.format.proofs.Tests.{equal, eqb-yes, eqb-no, leb-yes, leb-no, ltb-no, and-yes, and-no-left, and-no-right, pick-no}
 use Rattle.format.proofs.Names.{item-path, noted-known, noted-fresh}
 use Rattle.rows.specs.declared.state.State.{State}
-use Rattle.rows.specs.Judging.{After}
+use Rattle.rows.specs.Judging.{max-item, After}
 use Rattle.encoder.proofs.Lengths.{header-most, length-sized}
 use Rattle.rows.proofs.RowLaws.{content-kinds, bad-content, bad-plain, number-other, inside, content-length}
 use Rattle.encoder.proofs.MeasureLaws.{known-text}
@@ -33,42 +36,42 @@ use Rattle.rows.proofs.JudgeLaws.{rule-5, rule-6, rule-3, rule-8, rule-
 
 module _ (text : List ℕ) (r : Row) (h : hasContent (r .kind) ≡ true) where
   -- rule 9 is that the part is outside
-  pub content-bad : r .kind ≤ 11 → isBad text r ≡ ltb (length text) (r .start + r .number)
+  pub content-bad : r .kind ≤ Kind.key → isBad text r ≡ ltb (length text) (r .start + r .number)
   unfolding _||_
   content-bad l = bad-content text r h ∙ rw (ltb-no {a = 11} {b = r .kind} l)
 
-  pub content-full : isBad text r ≡ false → (m : ℕ) → m ≡ length (header (r .kind - 5) (r .number)) → m + r .number ≡ length (full (itemAt text r))
+  pub content-full : isBad text r ≡ false → (m : ℕ) → m ≡ length (header (r .kind - Kind.bytes) (r .number)) → m + r .number ≡ length (full (itemAt text r))
   unfolding itemAt
   content-full fine m e = omega (arith, length-sized (itemAt text r) (content-kinds (r .kind) h .0), content-length text r fine h)
 
-  pub content-small : isBad text r ≡ false → length text ≤ 16384 → (m : ℕ) → m ≡ length (header (r .kind - 5) (r .number)) → m + r .number ≤ 16393
-  content-small fine l m e = let i = inside text r fine h in omega (arith, i, header-most (r .kind - 5) (r .number) (omega (arith, i)))
+  pub content-small : isBad text r ≡ false → length text ≤ max-bytes → (m : ℕ) → m ≡ length (header (r .kind - Kind.bytes) (r .number)) → m + r .number ≤ max-item
+  content-small fine l m e = let i = inside text r fine h in omega (arith, i, header-most (r .kind - Kind.bytes) (r .number) (omega (arith, i)))
 
 -- ---- no name
 
-module _ {text es links st plan : List ℕ} {xs : List Row} {s : State} (a : After text es links st plan xs s) (r : Row) (lo : r .kind < 10) (fine : isBad text r ≡ false) where
-  text-is : isText (itemAt text r) ≡ eqb (r .kind) 9
+module _ {text es links st plan : List ℕ} {xs : List Row} {s : State} (a : After text es links st plan xs s) (r : Row) (lo : r .kind < Kind.symbol) (fine : isBad text r ≡ false) where
+  text-is : isText (itemAt text r) ≡ eqb (r .kind) Kind.string
   unfolding itemAt isText
   text-is = equal (r .kind) 9 (λ e. leb-yes {a = 9} {b = r .kind} (omega arith) ∙ sym (eqb-yes e)) (λ e. leb-no {a = 9} {b = r .kind} (omega arith) ∙ sym (eqb-no e))
 
-  flat : r .kind ≢ 8 → tooDeep (a .progress .place) (itemAt text r) ≡ false
+  flat : r .kind ≢ Kind.container → tooDeep (a .progress .place) (itemAt text r) ≡ false
   flat n = depth-is a r ∙ and-no-left _ (eqb-no n)
 
-  pub plain-deep : r .kind ≡ 8 → 32 ≤ s .depth → first (rowRules text (a .progress) r) ≡ some (failure TooDeep (a .progress .row))
+  pub plain-deep : r .kind ≡ Kind.container → max-depth ≤ s .depth → first (rowRules text (a .progress) r) ≡ some (failure TooDeep (a .progress .row))
   plain-deep e d = rule-6 text (a .progress) r fine (no-keys a r lo) (depth-is a r ∙ and-yes (eqb-yes e) (leb-yes d))
 
-  pub plain-text : r .kind ≢ 8 → eqb (r .kind) 9 && not (utf8 (contentOf text r)) ≡ true → first (rowRules text (a .progress) r) ≡ some (failure InvalidUtf8 (a .progress .row))
+  pub plain-text : r .kind ≢ Kind.container → eqb (r .kind) Kind.string && not (utf8 (contentOf text r)) ≡ true → first (rowRules text (a .progress) r) ≡ some (failure InvalidUtf8 (a .progress .row))
   unfolding itemAt
   plain-text n e = rule-3 text (a .progress) r fine (no-keys a r lo) (flat n) (ap (λ b. b && not (utf8 (contentOf text r))) text-is ∙ e)
 
-  pub plain-none : tooDeep (a .progress .place) (itemAt text r) ≡ false → eqb (r .kind) 9 && not (utf8 (contentOf text r)) ≡ false → first (rowRules text (a .progress) r) ≡ none
+  pub plain-none : tooDeep (a .progress .place) (itemAt text r) ≡ false → eqb (r .kind) Kind.string && not (utf8 (contentOf text r)) ≡ false → first (rowRules text (a .progress) r) ≡ none
   unfolding itemAt
   plain-none d e = rule-none text (a .progress) r fine (no-keys a r lo) d (ap (λ b. b && not (utf8 (contentOf text r))) text-is ∙ e) (few-names a r lo)
 
-  pub value-none : r .kind ≢ 8 → eqb (r .kind) 9 && not (utf8 (contentOf text r)) ≡ false → first (rowRules text (a .progress) r) ≡ none
+  pub value-none : r .kind ≢ Kind.container → eqb (r .kind) Kind.string && not (utf8 (contentOf text r)) ≡ false → first (rowRules text (a .progress) r) ≡ none
   value-none n e = plain-none (flat n) e
 
-  pub container-none : r .kind ≡ 8 → s .depth < 32 → first (rowRules text (a .progress) r) ≡ none
+  pub container-none : r .kind ≡ Kind.container → s .depth < max-depth → first (rowRules text (a .progress) r) ≡ none
   container-none e d = plain-none (depth-is a r ∙ and-no-right _ (leb-no d)) (and-no-left _ (eqb-no {a = r .kind} {b = 9} (λ q. omega arith)))
 
 -- ---- no content
@@ -85,20 +88,20 @@ module _ (text : List ℕ) (n : ℕ) where
   pub container-fine : isBad text (record { kind = 8; number = n; start = 0 }) ≡ false
   container-fine = bad-plain text (record { kind = 8; number = n; start = 0 }) (omega arith) no-content refl ∙ sym (number-other 8 n (omega arith) (λ e. omega arith) (λ e. omega arith))
 
-  pub container-full : length (header 3 n) ≡ length (full (itemAt text (record { kind = 8; number = n; start = 0 })))
+  pub container-full : length (header Code.container n) ≡ length (full (itemAt text (record { kind = 8; number = n; start = 0 })))
   container-full = omega (arith, length-sized (record { kind = 8; number = n; content = [] }) (omega arith)) ∙ ap (λ x. length (full x)) (sym (bare text 8 n no-content))
 
 -- ---- names
 
-module _ {text es links st plan : List ℕ} {xs : List Row} {s : State} (a : After text es links st plan xs s) (r : Row) (name : 10 ≤ r .kind) (fine : isBad text r ≡ false) where
+module _ {text es links st plan : List ℕ} {xs : List Row} {s : State} (a : After text es links st plan xs s) (r : Row) (name : Kind.symbol ≤ r .kind) (fine : isBad text r ≡ false) where
   pub is-name : isName (itemAt text r) ≡ true
   unfolding itemAt isName
   is-name = leb-yes name
 
-  pub name-again : eqb (s .keyed) 1 && eqb (r .kind) 11 ≡ true → first (rowRules text (a .progress) r) ≡ some (failure UnexpectedKey (a .progress .row))
+  pub name-again : eqb (s .keyed) 1 && eqb (r .kind) Kind.key ≡ true → first (rowRules text (a .progress) r) ≡ some (failure UnexpectedKey (a .progress .row))
   name-again e = rule-5 text (a .progress) r fine (keys-are a r ∙ e)
 
-  module _ (alone : eqb (s .keyed) 1 && eqb (r .kind) 11 ≡ false) where
+  module _ (alone : eqb (s .keyed) 1 && eqb (r .kind) Kind.key ≡ false) where
     name-flat : tooDeep (a .progress .place) (itemAt text r) ≡ false
     name-flat = depth-is a r ∙ and-no-left _ (eqb-no {a = r .kind} {b = 8} (λ e. omega arith))
 
@@ -124,8 +127,8 @@ module _ {text es links st plan : List ℕ} {xs : List Row} {s : State} (a : Aft
       more : length (noted (itemAt text r) (a .progress .names)) ≡ s .names + 1
       more = omega (arith, ap length (noted-fresh (itemAt text r) (a .progress .names) is-name (ap (index (itemAt text r)) (a .names) ∙ e)), length-append (a .progress .names) (itemAt text r ∷ []), names-count a r)
 
-      pub fresh-full : 256 ≤ s .names → first (rowRules text (a .progress) r) ≡ some (failure TooManyEntries (a .progress .row))
+      pub fresh-full : max-entries ≤ s .names → first (rowRules text (a .progress) r) ≡ some (failure TooManyEntries (a .progress .row))
       fresh-full l = rule-8 text (a .progress) r fine (keys-are a r ∙ alone) name-flat (good-text u) (omega (arith, more))
 
-      pub fresh-none : s .names < 256 → first (rowRules text (a .progress) r) ≡ none
+      pub fresh-none : s .names < max-entries → first (rowRules text (a .progress) r) ≡ none
       fresh-none l = rule-none text (a .progress) r fine (keys-are a r ∙ alone) name-flat (good-text u) (omega (arith, more))

@@ -8,12 +8,16 @@ use native.Mathlib.Omega.{arith}
 use lib.ListN.{length, take, drop, set, getD, length-set}
 use lib.Seq.{getD-set-same, getD-set-other}
 use Rattle.format.specs.declared.row.Row.{Row}
+use Rattle.format.specs.Code as Code
+use Rattle.format.specs.Kind as Kind
 use Rattle.format.specs.Header.{header}
 use Rattle.format.specs.Utf8.{utf8}
 use Rattle.format.specs.Item.{Item, hasContent}
 use Rattle.format.specs.Names.{sameName, index, namesFrom}
 use Rattle.format.specs.Rows.{contentOf, itemAt}
 use Rattle.format.specs.Writing.{isBad}
+use Rattle.format.specs.Limits.{max-bytes, max-rows}
+use Rattle.encoder.specs.Plan.{no-index}
 use Rattle.format.proofs.Names.{item-path, same-name-refl}
 use Rattle.symbols.specs.Entry.{partIn, name, nameIn, namesIn, Part}
 use Rattle.symbols.specs.Chains.{Chained}
@@ -32,7 +36,7 @@ use Rattle.rows.proofs.KindLaws.{content-full, content-small, is-name, 
 
 -- ---- the name of a row
 
-module _ (text : List ℕ) (r : Row) (lo : 10 ≤ r .kind) (fine : isBad text r ≡ false) where
+module _ (text : List ℕ) (r : Row) (lo : Kind.symbol ≤ r .kind) (fine : isBad text r ≡ false) where
   pub has-content : hasContent (r .kind) ≡ true
   has-content = content-text (r .kind) (omega arith)
 
@@ -47,7 +51,7 @@ module _ (text : List ℕ) (r : Row) (lo : 10 ≤ r .kind) (fine : isBad text r 
   name-part = sym (content-part text r fine has-content) ∙ ap (λ n. take n (drop (r .start) text)) (sym (content-length text r fine has-content))
 
   -- where its bytes stand
-  pub name-stands : {part : List ℕ} → length text ≤ 16384 → part ≡ contentOf text r → Part text text (r .kind) 0 (r .start) part
+  pub name-stands : {part : List ℕ} → length text ≤ max-bytes → part ≡ contentOf text r → Part text text (r .kind) 0 (r .start) part
   name-stands short e =
       rw e
       (record {
@@ -65,8 +69,8 @@ module _ (text : List ℕ) (r : Row) (lo : 10 ≤ r .kind) (fine : isBad text r 
     guessed-name : nameIn text text (getD es g 0) ≡ itemAt text r
     unfolding nameIn partIn itemAt
     guessed-name =
-        item-path (p .kind-is) (p .length-is)
-        (rw (p .length-is, p .start-is, side-both _ text) (content-part text r fine has-content))
+        item-path (p .there .kind-is) (p .there .length-is)
+        (rw (p .there .length-is, p .there .start-is, side-both _ text) (content-part text r fine has-content))
 
     pub guessed : index (itemAt text r) (namesIn text text (take count es)) ≡ some g
     guessed =
@@ -87,28 +91,28 @@ module _ {text es links st plan : List ℕ} {xs : List Row} {s : State} (a : Aft
   looked-up e f = ap (λ (x : Item). index x (namesIn text text (take (s .names) es))) (name-is text r (w .name) (w .fine) ∙ ap (name (r .kind)) (sym e)) ∙ f
 
   pub known-next : {plan′ : List ℕ} (i : ℕ) {t : State} → i < 2 ^ 64 → index (itemAt text r) (namesIn text text (take (s .names) es)) ≡ some i
-      → t ≡ namedBy st s (r .kind) (s .names) (length (header 7 i)) → plan′ ≡ set plan (s .row) i → Next text es links st plan′ xs r s t
+      → t ≡ namedBy st s (r .kind) (s .names) (length (header Code.reference i)) → plan′ ≡ set plan (s .row) i → Next text es links st plan′ xs r s t
   known-next i l e et ep =
       rw ep
-      (named-next a r (s .names) (length (header 7 i)) et (ready .row) (omega (arith, header-most 7 i l)) (λ q. omega (arith, w .name))
+      (named-next a r (s .names) (length (header Code.reference i)) et (ready .row) (omega (arith, header-most 7 i l)) (λ q. omega (arith, w .name))
       (known-none a r (w .name) (w .fine) (w .alone) i (among e))
-      (rw (← items-count a r) (measure-known (a .measured) (itemAt text r) (omega (arith, items-count a r, ready .row)) i (length (header 7 i)) (is-name a r (w .name) (w .fine)) (among e) refl)))
+      (rw (← items-count a r) (measure-known (a .measured) (itemAt text r) (omega (arith, items-count a r, ready .row)) i (length (header Code.reference i)) (is-name a r (w .name) (w .fine)) (among e) refl)))
 
   pub fresh-next : {es′ links′ plan′ part : List ℕ} (g v : ℕ) {t : State} → part ≡ contentOf text r → utf8 (contentOf text r) ≡ true
       → Entered text text es es′ links′ (s .names) (name (r .kind) part) (r .start)
-      → t ≡ namedBy st s (r .kind) (s .names + 1) (length (header (r .kind - 5) (r .number)) + r .number)
-      → plan′ ≡ set (set plan (1024 + g) v) (s .row) 256 → Next text es′ links′ st plan′ xs r s t
+      → t ≡ namedBy st s (r .kind) (s .names + 1) (length (header (r .kind - Kind.bytes) (r .number)) + r .number)
+      → plan′ ≡ set (set plan (max-rows + g) v) (s .row) no-index → Next text es′ links′ st plan′ xs r s t
   unfolding itemAt
   fresh-next g v e u n et ep =
       rw ep
       (named-next a r (s .names + 1) (m + r .number) et (ready .row) (content-small text r hc (w .fine) (ready .short) m refl) (λ q. omega (arith, w .name))
       (fresh-none a r (w .name) (w .fine) (w .alone) new-name u (n .room))
-      (measure-fresh (a .measured) (itemAt text r) (omega (arith, count, ready .row)) _ _ (set (set plan (1024 + g) v) (s .row) 256) (n .entry) (m + r .number)
+      (measure-fresh (a .measured) (itemAt text r) (omega (arith, count, ready .row)) _ _ (set (set plan (max-rows + g) v) (s .row) no-index) (n .entry) (m + r .number)
       (is-name a r (w .name) (w .fine)) new-name u (content-full text r hc (w .fine) m refl) (n .chained) (n .stored) (n .named ∙ ap (name (r .kind)) e ∙ sym (name-is text r (w .name) (w .fine)))
-      (length-set (set plan (1024 + g) v) (s .row) 256 ∙ length-set plan (1024 + g) v ∙ a .measured .plan-size) old new))
+      (length-set (set plan (max-rows + g) v) (s .row) no-index ∙ length-set plan (max-rows + g) v ∙ a .measured .plan-size) old new))
     where
       m : ℕ
-      m = length (header (r .kind - 5) (r .number))
+      m = length (header (r .kind - Kind.bytes) (r .number))
 
       new-name : index (itemAt text r) (namesFrom [] (a .progress .items)) ≡ none
       new-name = among (looked-up e (n .new))
@@ -119,10 +123,10 @@ module _ {text es links st plan : List ℕ} {xs : List Row} {s : State} (a : Aft
       count : length (a .progress .items) ≡ s .row
       count = items-count a r
 
-      old : (j : ℕ) → j < length (a .progress .items) → getD (set (set plan (1024 + g) v) (s .row) 256) j 0 ≡ getD plan j 0
+      old : (j : ℕ) → j < length (a .progress .items) → getD (set (set plan (max-rows + g) v) (s .row) no-index) j 0 ≡ getD plan j 0
       old j l =
-          getD-set-other (set plan (1024 + g) v) (s .row) j 256 0 (λ q. omega (arith, count))
-          ∙ getD-set-other plan (1024 + g) j v 0 (λ q. omega (arith, count, ready .row))
+          getD-set-other (set plan (max-rows + g) v) (s .row) j no-index 0 (λ q. omega (arith, count))
+          ∙ getD-set-other plan (max-rows + g) j v 0 (λ q. omega (arith, count, ready .row))
 
-      new : getD (set (set plan (1024 + g) v) (s .row) 256) (length (a .progress .items)) 0 ≡ 256
-      new = rw count (getD-set-same (set plan (1024 + g) v) (s .row) 256 0 (omega (arith, length-set plan (1024 + g) v, a .measured .plan-size, ready .row)))
+      new : getD (set (set plan (max-rows + g) v) (s .row) no-index) (length (a .progress .items)) 0 ≡ no-index
+      new = rw count (getD-set-same (set plan (max-rows + g) v) (s .row) no-index 0 (omega (arith, length-set plan (max-rows + g) v, a .measured .plan-size, ready .row)))

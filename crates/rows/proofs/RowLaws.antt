@@ -9,10 +9,12 @@ use lib.Dec.{eqb, ltb, leb}
 use lib.ListN.{length, take, drop, length-drop}
 use lib.Seq.{length-take-le}
 use Rattle.format.specs.declared.row.Row.{Row}
+use Rattle.format.specs.Kind as Kind
 use Rattle.format.specs.Choice.{_&&_, _||_}
 use Rattle.format.specs.Item.{hasContent}
 use Rattle.format.specs.Rows.{contentOf}
 use Rattle.format.specs.Writing.{isBad}
+use Rattle.format.specs.Header.{negative-alias}
 use Rattle.format.proofs.Tests.{cases, clash, order, eqb-yes, eqb-no, eqb-true, leb-yes, leb-true, ltb-yes, ltb-no, ltb-false, or-false, and-no-right, pick-yes}
 use Rattle.rows.specs.Rules.{badNumber}
 
@@ -82,14 +84,14 @@ module _ (k n : ℕ) where
   unfolding badNumber _&&_ _||_
   number-single h = rw (ltb-no {a = k} {b = 3} (omega arith), eqb-yes h, eqb-no {a = k} {b = 7} (λ e. omega arith)) (sym (or-none (leb 4294967296 n)))
 
-  number-high : 5 ≤ k → badNumber k n ≡ eqb k 7 && eqb n 18446744073709551615
+  number-high : 5 ≤ k → badNumber k n ≡ eqb k 7 && eqb n negative-alias
   unfolding badNumber _&&_ _||_
   number-high h = rw (ltb-no {a = k} {b = 3} (omega arith), eqb-no {a = k} {b = 3} (λ e. omega arith))
 
-  pub number-usual : 5 ≤ k → n ≢ 18446744073709551615 → false ≡ badNumber k n
+  pub number-usual : 5 ≤ k → n ≢ negative-alias → false ≡ badNumber k n
   number-usual h e = sym (number-high h ∙ and-no-right _ (eqb-no e))
 
-  pub number-least : 5 ≤ k → n ≡ 18446744073709551615 → eqb k 7 ≡ badNumber k n
+  pub number-least : 5 ≤ k → n ≡ negative-alias → eqb k 7 ≡ badNumber k n
   unfolding _&&_
   number-least h e = sym (number-high h ∙ ap (λ b. eqb k 7 && b) (eqb-yes e) ∙ and-all (eqb k 7))
 
@@ -110,16 +112,16 @@ module _ (text : List ℕ) (r : Row) where
   unfolding isBad _&&_ _||_
   bad-start h l = rw (h, ltb-yes l, or-any (ltb (r .kind) 3 && ltb 0 (r .number)), or-any (ltb 11 (r .kind)))
 
-  pub bad-plain : r .kind ≤ 11 → hasContent (r .kind) ≡ false → r .start ≡ 0 → isBad text r ≡ badNumber (r .kind) (r .number)
+  pub bad-plain : r .kind ≤ Kind.key → hasContent (r .kind) ≡ false → r .start ≡ 0 → isBad text r ≡ badNumber (r .kind) (r .number)
   unfolding isBad badNumber _&&_ _||_
   bad-plain l h z =
       rw (ltb-no {a = 11} {b = r .kind} l, h, ltb-no {a = 0} {b = r .start} (omega arith))
-      (ap (λ b. (ltb (r .kind) 3 && ltb 0 (r .number)) || ((eqb (r .kind) 3 && leb (2 ^ 32) (r .number)) || b)) (or-none (eqb (r .kind) 7 && eqb (r .number) (2 ^ 64 - 1))))
+      (ap (λ b. (ltb (r .kind) 3 && ltb 0 (r .number)) || ((eqb (r .kind) Kind.float32 && leb (2 ^ 32) (r .number)) || b)) (or-none (eqb (r .kind) Kind.negative && eqb (r .number) (2 ^ 64 - 1))))
 
   -- ---- a row that rule 9 lets pass
 
   module _ (fine : isBad text r ≡ false) where
-    pub kind-most : r .kind ≤ 11
+    pub kind-most : r .kind ≤ Kind.key
     unfolding isBad
     kind-most = ltb-false 11 (r .kind) (or-false _ _ fine .0)
 

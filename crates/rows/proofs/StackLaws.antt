@@ -11,6 +11,7 @@ use lib.Seq.{getD-set-same, getD-set-other}
 use Rattle.format.specs.Choice.{pick, _&&_}
 use Rattle.format.specs.Item.{Item, isKey, isContainer}
 use Rattle.format.specs.Place.{Place, ended, moved}
+use Rattle.format.specs.Limits.{max-depth, max-rows}
 use Rattle.format.proofs.Tests.{order, ltb-yes, ltb-no, pick-yes, pick-no}
 use Rattle.rows.specs.declared.place.Level.{Level}
 use Rattle.rows.specs.Stack.{openedOf, bottom, closed, Stands}
@@ -76,7 +77,7 @@ bottom-set st i v (suc d) l h = bottom-set st i v d (getD (set st i v) d 0) (ome
 -- ---- the place after an item
 
 module _ {st : List ℕ} {d l k row : ℕ} {p : Place} (s : Stands st d l k row p) (x : Item) where
-  pub stands-value : row < 1024 → isKey x ≡ false → isContainer x && ltb 0 (x .number) ≡ false → let to = closed st d l in Stands st (to .depth) (to .left) 0 (row + 1) (moved p x)
+  pub stands-value : row < max-rows → isKey x ≡ false → isContainer x && ltb 0 (x .number) ≡ false → let to = closed st d l in Stands st (to .depth) (to .left) 0 (row + 1) (moved p x)
   unfolding moved
   stands-value lt key box =
       let e = ends st d l (p .fields) (omega (arith, s .high)) in
@@ -93,7 +94,7 @@ module _ {st : List ℕ} {d l k row : ℕ} {p : Place} (s : Stands st d l k row 
   unfolding moved pick
   stands-key key = record { size = s .size; deep = s .deep; high = omega (arith, s .high); opened = rw key (s .opened); key = rw key }
 
-  pub stands-open : isKey x ≡ false → isContainer x && ltb 0 (x .number) ≡ true → d < 32 → Stands (set st d l) (d + 1) (x .number) 0 (row + 1) (moved p x)
+  pub stands-open : isKey x ≡ false → isContainer x && ltb 0 (x .number) ≡ true → d < max-depth → Stands (set st d l) (d + 1) (x .number) 0 (row + 1) (moved p x)
   unfolding moved pick openedOf bottom
   stands-open key box lt =
       let v = getD-set-same st d l 0 (omega (arith, s .size)) in

@@ -9,11 +9,13 @@ use Rattle.format.specs.declared.error.Error.{Error}
 use Rattle.format.specs.declared.error.Error.the-variants.{InvalidRow, InvalidUtf8, TooDeep, TooManyEntries, UnexpectedKey}
 use Rattle.format.specs.Error.{codeOf}
 use Rattle.format.specs.Answer.{Answer, fail}
+use Rattle.format.specs.Limits.{max-bytes, max-rows, max-depth, max-header}
 use Rattle.format.specs.Names.{namesFrom}
 use Rattle.format.specs.WellFormed.{All}
 use Rattle.format.specs.Rows.{itemsAt}
 use Rattle.format.specs.Writing.{Progress, begin, isBad, judge}
 use Rattle.rows.specs.declared.state.State.{State}
+use Rattle.rows.specs.Plan.{plan-size}
 use Rattle.rows.specs.Stack.{bottom, Stands}
 use Rattle.encoder.specs.Plan.{Measured}
 
@@ -32,6 +34,10 @@ pub record RefusedAs (judgement : Answer Progress) (s : State) : Type 0 where
   pub number : codeOf error ≡ s .error
   pub is : judgement ≡ fail error (s .row)
 
+-- The most bytes of an item in full: a header and content.
+abbrev pub max-item : ℕ
+max-item = max-header + max-bytes
+
 -- The rows xs were taken, and s is the state after them.
 pub record After (text es links st plan : List ℕ) (xs : List Row) (s : State) : Type 0 where
   pub progress : Progress
@@ -41,17 +47,17 @@ pub record After (text es links st plan : List ℕ) (xs : List Row) (s : State) 
   pub names : progress .names ≡ namesFrom [] (progress .items)
   pub row : progress .row ≡ s .row
   pub rows : length xs ≡ s .row
-  pub small : s .size ≤ s .row * 16393
+  pub small : s .size ≤ s .row * max-item
   pub stands : Stands st (s .depth) (s .left) (s .keyed) (s .row) (progress .place)
-  pub measured : Measured 1533 text text es links plan (progress .items) (s .names) (s .size)
+  pub measured : Measured plan-size text text es links plan (progress .items) (s .names) (s .size)
 
 -- What a state is good for: one row more.
 pub record Ready (text st : List ℕ) (s : State) : Type 0 where
-  pub short : length text ≤ 16384
-  pub row : s .row < 1024
-  pub small : s .size ≤ s .row * 16393
-  pub stack : length st ≡ 32
-  pub deep : s .depth ≤ 32
+  pub short : length text ≤ max-bytes
+  pub row : s .row < max-rows
+  pub small : s .size ≤ s .row * max-item
+  pub stack : length st ≡ max-depth
+  pub deep : s .depth ≤ max-depth
   pub top : 2 ≤ bottom st (s .depth) (s .left)
 
 -- One row more: taken, or refused.

@@ -2,5 +2,6 @@
 pub mod Stack
 pub mod Steps
 pub mod Rules
+pub mod Plan
 pub mod Judging
 pub mod Names

@@ -6,8 +6,12 @@ use mathlib.Core.List.{List, [], _∷_}
 use lib.Dec.{eqb, ltb}
 use lib.ListN.{length, getD}
 use Rattle.format.specs.Choice.{pick}
+use Rattle.format.specs.Limits.{max-rows, max-depth}
 use Rattle.format.specs.Place.{Place}
 use Rattle.rows.specs.declared.place.Level.{Level}
+
+abbrev pub top-fields : ℕ
+top-fields = max-rows + 1
 
 -- Of each open container, the innermost first, the fields left.
 unfoldable pub openedOf : List ℕ → ℕ → ℕ → List ℕ
@@ -26,8 +30,8 @@ closed st (suc d) l = let outer = closed st d (getD st d 0) in pick (ltb l 2) ou
 
 -- The stack stands for a place, after so many rows.
 pub record Stands (st : List ℕ) (depth left keyed row : ℕ) (p : Place) : Type 0 where
-  pub size : length st ≡ 32
-  pub deep : depth ≤ 32
-  pub high : 1025 ≤ row + bottom st depth left
+  pub size : length st ≡ max-depth
+  pub deep : depth ≤ max-depth
+  pub high : top-fields ≤ row + bottom st depth left
   pub opened : p .opened ≡ openedOf st depth left
   pub key : p .keyed ≡ eqb keyed 1

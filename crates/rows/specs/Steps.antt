@@ -3,6 +3,7 @@ use Prim.Native.Nat.{ℕ, _+_}
 use mathlib.Core.List.{List}
 use lib.Dec.{eqb}
 use Rattle.format.specs.Choice.{pick}
+use Rattle.format.specs.Kind as Kind
 use Rattle.rows.specs.declared.state.State.{State}
 use Rattle.rows.specs.Stack.{closed}
 
@@ -21,7 +22,7 @@ keyedBy s names n = record { row = s .row + 1; end = s .end; depth = s .depth; l
 
 -- after a name of n bytes
 unfoldable pub namedBy : List ℕ → State → ℕ → ℕ → ℕ → State
-namedBy st s kind names n = pick (eqb kind 11) (keyedBy s names n) (valued st s names n)
+namedBy st s kind names n = pick (eqb kind Kind.key) (keyedBy s names n) (valued st s names n)
 
 -- after the header, of n bytes, of a container
 unfoldable pub openedBy : State → ℕ → ℕ → State

@@ -2,13 +2,18 @@
 ghost use mathlib.Core.Path.{_≡_};
 ghost use mathlib.Core.Bool.{true};
 ghost use mathlib.Core.List.{List};
-ghost use Prim.Native.Nat.{ℕ, _+_, _-_, _%_, _≤_, _<_};
+ghost use Prim.Native.Nat.{ℕ, _+_, _-_, _≤_, _<_};
 ghost use lib.Dec.{ltb};
 ghost use lib.ListN.{length, set};
 ghost use Rattle.format.specs.declared.row.Row.{Row};
 ghost use Rattle.format.specs.Choice.{_||_};
+ghost use Rattle.format.specs.Kind as Kind;
+ghost use Rattle.format.specs.Code as Code;
+ghost use Rattle.format.specs.Limits.{max-bytes, max-entries, max-kind};
 ghost use Rattle.format.specs.Header.{header};
 ghost use Rattle.symbols.specs.Chains.{Chained};
+ghost use Rattle.encoder.specs.Plan.{no-index};
+ghost use Rattle.rows.specs.Plan.{plan-size, guessAt};
 ghost use Rattle.rows.specs.Judging.{After, Next, Ready};
 ghost use Rattle.rows.specs.Names.{Placed, Naming};
 ghost use Rattle.rows.specs.Steps.{namedBy};
@@ -20,13 +25,16 @@ use crate::state::refuse;
 use encoder::putting::Reference;
 use format::Bundle;
 use format::Error;
+use format::Header;
 use format::Row;
 use format::SymbolTable;
+use symbols::entry::is_part;
 use symbols::entry::key_of;
 use symbols::lookup::Links;
 use symbols::lookup::Noted;
 use symbols::lookup::note;
 use utf8::is_utf8;
+use wire::header::code_of;
 use wire::header::header_len;
 use wire::rules::key_after_key;
 
@@ -34,17 +42,17 @@ use wire::rules::key_after_key;
 pub struct Plan;
 
 impl Plan {
-    pub const GUESSES: usize = 1024;
+    pub const GUESSES: usize = Row::MAX_COUNT;
 
     pub const MODULUS: usize = 509;
 
-    pub const SIZE: usize = 1533;
+    pub const SIZE: usize = Plan::GUESSES + Plan::MODULUS;
 }
 
 // Rule 9 for a name.
 fn is_bad(len: usize, row: Row) -> bool
-    requires { ⌜ 10 ≤ row .kind ⌝ }
-    ensures { λ r. ⌜ r ≡ (ltb 11 (row .kind) || ltb len (row .start + row .number)) ⌝ }
+    requires { ⌜ Kind.symbol ≤ row .kind ⌝ }
+    ensures { λ r. ⌜ r ≡ (ltb max-kind (row .kind) || ltb len (row .start + row .number)) ⌝ }
 {
     if Row::MAX_KIND < row.kind {
         return true;
@@ -61,18 +69,14 @@ fn is_entry(
     start: usize,
     number: u64,
 ) -> bool
-    requires { ⌜ (length (now entries) ≡ 256) × (names ≤ 256) × (10 ≤ kind) × (kind ≤ 11) × (start ≤ 16384) × (number ≤ 16384) ⌝ }
+    requires { ⌜ (length (now entries) ≡ max-entries) × (names ≤ max-entries) × (Kind.symbol ≤ kind) × (kind ≤ Kind.key) × (start ≤ max-bytes) × (number ≤ max-bytes) ⌝ }
     ensures { λ r. ⌜ (r ≡ true → Placed (now (entries .entry)) names guess kind start number) ⌝ }
 {
     let i = guess as usize;
     if names <= i {
         return false;
     }
-    let e = entries[i];
-    if e / 281474976710656 != start as u64 * 2 {
-        return false;
-    }
-    e % 65536 == number * 2 + (kind as u64 - 10)
+    is_part(entries[i], kind, start, number)
 }
 
 // A name that has an entry.
@@ -83,13 +87,19 @@ fn known(
     kind: u8,
     i: u16,
 ) -> State
-    requires { ⌜ ((text : List ℕ) × Ready text (now stack) s) × (length (now plan) ≡ 1533) ⌝ }
-    ensures state { λ r. ⌜ r ≡ namedBy (now (stack .entry)) s kind (s .names) (length (header 7 i)) ⌝ }
+    requires { ⌜ ((text : List ℕ) × Ready text (now stack) s) × (length (now plan) ≡ plan-size) ⌝ }
+    ensures state { λ r. ⌜ r ≡ namedBy (now (stack .entry)) s kind (s .names) (length (header Code.reference i)) ⌝ }
     ensures planned { λ _. ⌜ now (plan .exit) ≡ set (now (plan .entry)) (s .row) i ⌝ }
 {
     let row = s.row;
     plan[row] = i;
-    named(stack, s, kind, s.names, header_len(7, i as u64))
+    named(
+        stack,
+        s,
+        kind,
+        s.names,
+        header_len(Header::REFERENCE, i as u64),
+    )
 }
 
 // A name that is entered now: the guess for its place in the text, and that it stands in full.
@@ -99,9 +109,9 @@ fn fresh(
     s: State,
     row: Row,
 ) -> State
-    requires { ⌜ ((text : List ℕ) × Ready text (now stack) s) × (length (now plan) ≡ 1533) × (s .names < 256) × (10 ≤ row .kind) × (row .kind ≤ 11) × (row .number ≤ 16384) ⌝ }
-    ensures state { λ r. ⌜ r ≡ namedBy (now (stack .entry)) s (row .kind) (s .names + 1) (length (header (row .kind - 5) (row .number)) + row .number) ⌝ }
-    ensures planned { λ _. ⌜ now (plan .exit) ≡ set (set (now (plan .entry)) (1024 + row .start % 509) (s .names)) (s .row) 256 ⌝ }
+    requires { ⌜ ((text : List ℕ) × Ready text (now stack) s) × (length (now plan) ≡ plan-size) × (s .names < max-entries) × (Kind.symbol ≤ row .kind) × (row .kind ≤ Kind.key) × (row .number ≤ max-bytes) ⌝ }
+    ensures state { λ r. ⌜ r ≡ namedBy (now (stack .entry)) s (row .kind) (s .names + 1) (length (header (row .kind - Kind.bytes) (row .number)) + row .number) ⌝ }
+    ensures planned { λ _. ⌜ now (plan .exit) ≡ set (set (now (plan .entry)) (guessAt (row .start)) (s .names)) (s .row) no-index ⌝ }
 {
     let names = s.names;
     let at = s.row;
@@ -109,7 +119,7 @@ fn fresh(
     let number = row.number;
     plan[Plan::GUESSES + start % Plan::MODULUS] = names as u16;
     plan[at] = Reference::FULL;
-    let n = header_len(row.kind - 5, number) + number as usize;
+    let n = header_len(code_of(row.kind), number) + number as usize;
     named(stack, s, row.kind, names + 1, n)
 }
 
@@ -123,7 +133,7 @@ fn looked_up(
     s: State,
     row: Row,
 ) -> State
-    requires { ⌜ Ready (now text) (now stack) s × Naming (now text) s row × Chained (now text) (now text) (now entries) (now links) (s .names) × (length (now plan) ≡ 1533) ⌝ }
+    requires { ⌜ Ready (now text) (now stack) s × Naming (now text) s row × Chained (now text) (now text) (now entries) (now links) (s .names) × (length (now plan) ≡ plan-size) ⌝ }
     ensures { λ r. ⌜ ((xs : List Row) → After (now (text .entry)) (now (entries .entry)) (now (links .entry)) (now (stack .entry)) (now (plan .entry)) xs s
         → Next (now (text .entry)) (now (entries .exit)) (now (links .exit)) (now (stack .entry)) (now (plan .exit)) xs row s r) ⌝ }
 {
@@ -152,7 +162,7 @@ pub fn name_row(
     s: State,
     row: Row,
 ) -> State
-    requires { ⌜ Ready (now text) (now stack) s × (10 ≤ row .kind) × Chained (now text) (now text) (now entries) (now links) (s .names) × (length (now plan) ≡ 1533) ⌝ }
+    requires { ⌜ Ready (now text) (now stack) s × (Kind.symbol ≤ row .kind) × Chained (now text) (now text) (now entries) (now links) (s .names) × (length (now plan) ≡ plan-size) ⌝ }
     ensures { λ r. ⌜ ((xs : List Row) → After (now (text .entry)) (now (entries .entry)) (now (links .entry)) (now (stack .entry)) (now (plan .entry)) xs s
         → Next (now (text .entry)) (now (entries .exit)) (now (links .exit)) (now (stack .entry)) (now (plan .exit)) xs row s r) ⌝ }
 {

@@ -5,8 +5,10 @@ ghost use mathlib.Core.List.{List};
 ghost use Prim.Native.Nat.{ℕ, _<_};
 ghost use lib.ListN.{length};
 ghost use Rattle.format.specs.declared.row.Row.{Row};
+ghost use Rattle.format.specs.Kind as Kind;
 ghost use Rattle.format.specs.Item.{hasContent};
 ghost use Rattle.symbols.specs.Chains.{Chained};
+ghost use Rattle.rows.specs.Plan.{plan-size};
 ghost use Rattle.rows.specs.Judging.{After, Next, Ready};
 use crate::item::bad_number;
 use crate::item::content;
@@ -21,15 +23,17 @@ use crate::state::State;
 use crate::state::refuse;
 use format::Bundle;
 use format::Error;
+use format::Header;
 use format::Row;
 use format::SymbolTable;
 use symbols::lookup::Links;
+use wire::header::code_of;
 use wire::header::header_len;
 use wire::rules::bad_text;
 
 // Bytes or a string.
 fn content_row(text: &[u8], stack: &[u64; Bundle::MAX_DEPTH], s: State, row: Row) -> State
-    requires { ⌜ Ready (now text) (now stack) s × (row .kind < 10) × (hasContent (row .kind) ≡ true) ⌝ }
+    requires { ⌜ Ready (now text) (now stack) s × (row .kind < Kind.symbol) × (hasContent (row .kind) ≡ true) ⌝ }
     ensures { λ r. ⌜ ((es links plan : List ℕ) (xs : List Row) → After (now (text .entry)) es links (now (stack .entry)) plan xs s → Next (now (text .entry)) es links (now (stack .entry)) plan xs row s r) ⌝ }
 {
     let number = row.number;
@@ -37,10 +41,10 @@ fn content_row(text: &[u8], stack: &[u64; Bundle::MAX_DEPTH], s: State, row: Row
         return refuse(s, Error::InvalidRow);
     }
     let kind = row.kind;
-    if bad_text(kind == 9, content(text, row)) {
+    if bad_text(kind == Row::STRING, content(text, row)) {
         return refuse(s, Error::InvalidUtf8);
     }
-    let n = header_len(kind - 5, number) + number as usize;
+    let n = header_len(code_of(kind), number) + number as usize;
     value(stack, s, s.names, n)
 }
 
@@ -48,12 +52,12 @@ fn content_row(text: &[u8], stack: &[u64; Bundle::MAX_DEPTH], s: State, row: Row
 fn container_row(stack: &mut [u64; Bundle::MAX_DEPTH], s: State, number: u64) -> State
     requires { ⌜ ((text : List ℕ) × Ready text (now stack) s) ⌝ }
     ensures { λ r. ⌜ ((text es links plan : List ℕ) (xs : List Row) → After text es links (now (stack .entry)) plan xs s
-        → Next text es links (now (stack .exit)) plan xs (record { kind = 8; number = number; start = 0 }) s r) ⌝ }
+        → Next text es links (now (stack .exit)) plan xs (record { kind = Kind.container; number = number; start = 0 }) s r) ⌝ }
 {
     if Bundle::MAX_DEPTH <= s.depth {
         return refuse(s, Error::TooDeep);
     }
-    let n = header_len(3, number);
+    let n = header_len(Header::CONTAINER, number);
     if number == 0 {
         return value(stack, s, s.names, n);
     }
@@ -62,7 +66,7 @@ fn container_row(stack: &mut [u64; Bundle::MAX_DEPTH], s: State, number: u64) ->
 
 // A row that is no container and has no content.
 fn plain_row(stack: &[u64; Bundle::MAX_DEPTH], s: State, kind: u8, number: u64) -> State
-    requires { ⌜ ((text : List ℕ) × Ready text (now stack) s) × (kind < 8) × (hasContent kind ≡ false) ⌝ }
+    requires { ⌜ ((text : List ℕ) × Ready text (now stack) s) × (kind < Kind.container) × (hasContent kind ≡ false) ⌝ }
     ensures { λ r. ⌜ ((text es links plan : List ℕ) (xs : List Row) → After text es links (now (stack .entry)) plan xs s
         → Next text es links (now (stack .entry)) plan xs (record { kind = kind; number = number; start = 0 }) s r) ⌝ }
 {
@@ -82,12 +86,12 @@ pub fn step(
     s: State,
     row: Row,
 ) -> State
-    requires { ⌜ Ready (now text) (now stack) s × Chained (now text) (now text) (now entries) (now links) (s .names) × (length (now plan) ≡ 1533) ⌝ }
+    requires { ⌜ Ready (now text) (now stack) s × Chained (now text) (now text) (now entries) (now links) (s .names) × (length (now plan) ≡ plan-size) ⌝ }
     ensures { λ r. ⌜ ((xs : List Row) → After (now (text .entry)) (now (entries .entry)) (now (links .entry)) (now (stack .entry)) (now (plan .entry)) xs s
         → Next (now (text .entry)) (now (entries .exit)) (now (links .exit)) (now (stack .exit)) (now (plan .exit)) xs row s r) ⌝ }
 {
     let kind = row.kind;
-    if 10 <= kind {
+    if Row::SYMBOL <= kind {
         return name_row(text, entries, links, stack, plan, s, row);
     }
     if has_content(kind) {
@@ -96,7 +100,7 @@ pub fn step(
     if 0 < row.start {
         return refuse(s, Error::InvalidRow);
     }
-    if kind == 8 {
+    if kind == Row::CONTAINER {
         return container_row(stack, s, row.number);
     }
     plain_row(stack, s, kind, row.number)

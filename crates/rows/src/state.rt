@@ -3,6 +3,7 @@ ghost use mathlib.Core.Path.{_≡_};
 ghost use Rattle.format.specs.Error.{codeOf};
 ghost use Rattle.rows.specs.Steps.{refused};
 use format::Error;
+use format::Row;
 
 pub struct State {
     // rows taken, or the number of the row that is refused
@@ -25,7 +26,7 @@ pub struct State {
 
 impl State {
     // More fields at the top than there can be rows.
-    pub const TOP: u64 = 1025;
+    pub const TOP: u64 = Row::MAX_COUNT as u64 + 1;
 }
 
 // A row that is refused.

@@ -1,5 +1,5 @@
 -- UTF-8 by a local rule: whether a byte may stand where it does goes by the three bytes before it alone.
-use Prim.Native.Nat.{ℕ, _+_, _≤_, _<_}
+use Prim.Native.Nat.{ℕ, _+_, _*_, _≤_, _<_}
 use mathlib.Core.Path.{_≡_}
 use mathlib.Core.Bool.{Bool, true, false, not, _&&_, _||_, Bool·beq}
 use mathlib.Core.List.{List}
@@ -7,6 +7,18 @@ use lib.Dec.{leb}
 use lib.ListN.{getD, drop}
 use Rattle.format.specs.Choice.{pick}
 use Rattle.format.specs.Utf8.{goodAfter}
+
+-- A window: a byte, and so many before it.
+abbrev pub before : ℕ
+before = 3
+
+-- A block of 16 windows, one byte further each.
+abbrev pub block-bytes : ℕ
+block-bytes = 16 + before
+
+-- A text that is looked at by its two ends, of at most 32 bytes each.
+abbrev pub max-short : ℕ
+max-short = 2 * 32
 
 -- Is a continuation byte due after the bytes p3, p2, p1?
 unfoldable pub due : ℕ → ℕ → ℕ → Bool

@@ -4,7 +4,21 @@ ghost use mathlib.Core.Bool.{true};
 ghost use Prim.Native.Nat.{_+_, _*_, _≤_};
 ghost use lib.ListN.{length};
 ghost use Rattle.format.specs.Utf8.{utf8};
-ghost use Rattle.utf8.specs.Local.{Passing, Ascii};
+ghost use Rattle.utf8.specs.Local.{before, max-short, Passing, Ascii};
+use crate::local::Window;
+
+// A short text is looked at by its two ends, which meet or overlap, the front of a long one by steps.
+pub struct Ends;
+
+impl Ends {
+    const MAX: usize = 32;
+
+    pub const MAX_SHORT: usize = 2 * Ends::MAX;
+
+    const STEP: usize = 64;
+    // With what stands before the first window.
+    const STEP_BYTES: usize = Ends::STEP + Window::BEFORE;
+}
 
 // Are the n bytes from a on ASCII below 0x7f? Callers know n, so that this becomes vector code; the test of the top bit alone becomes slower code,
 // so 0x7f is left to those that look closer.
@@ -31,12 +45,12 @@ pub fn ascii_ends(s: &[u8], k: usize) -> bool
 
 // Is a short text all ASCII? Two reads of a fixed width that meet or overlap take less than a loop.
 pub fn short_ascii(s: &[u8]) -> bool
-    requires { ⌜ length (now s) ≤ 64 ⌝ }
+    requires { ⌜ length (now s) ≤ max-short ⌝ }
     ensures { λ r. ⌜ (r ≡ true → utf8 (now (s .entry)) ≡ true) ⌝ }
 {
     let n = s.len();
-    if 32 <= n {
-        return ascii_ends(s, 32);
+    if Ends::MAX <= n {
+        return ascii_ends(s, Ends::MAX);
     }
     if 16 <= n {
         return ascii_ends(s, 16);
@@ -53,20 +67,20 @@ pub fn short_ascii(s: &[u8]) -> bool
     ascii_ends(s, n)
 }
 
-// How many windows at the front pass since their bytes are ASCII, counted by 64. A window is four bytes that follow one another.
+// How many windows at the front pass since their bytes are ASCII, counted by steps.
 pub fn ascii_front(s: &[u8]) -> usize
-    requires { ⌜ 3 ≤ length (now s) ⌝ }
+    requires { ⌜ before ≤ length (now s) ⌝ }
     ensures { λ r. ⌜ Passing (now (s .entry)) 0 r ⌝ }
 {
-    if !ascii_at(s, 0, 3) {
+    if !ascii_at(s, 0, Window::BEFORE) {
         return 0;
     }
     let mut i = 0;
-    while 67 <= s.len() - i {
-        if !ascii_at(s, i + 3, 64) {
+    while Ends::STEP_BYTES <= s.len() - i {
+        if !ascii_at(s, i + Window::BEFORE, Ends::STEP) {
             return i;
         }
-        i += 64;
+        i += Ends::STEP;
     }
     i
 }

@@ -4,8 +4,19 @@ ghost use mathlib.Core.Bool.{not, _&&_};
 ghost use Prim.Native.Nat.{_+_, _-_, _≤_, min};
 ghost use lib.ListN.{length};
 ghost use Rattle.format.specs.Utf8.{utf8};
-ghost use Rattle.utf8.specs.Local.{due, passes, Passing, goodFrom, Checked};
+ghost use Rattle.utf8.specs.Local.{before, block-bytes, due, passes, Passing, goodFrom, Checked};
 use crate::ascii::ascii_front;
+
+// A window is a byte and those before it that the rule looks at; a block is so many windows, one byte further each.
+pub struct Window;
+
+impl Window {
+    pub const BEFORE: usize = 3;
+
+    pub const PER_BLOCK: usize = 16;
+
+    pub const BLOCK_BYTES: usize = Window::PER_BLOCK + Window::BEFORE;
+}
 
 // The local rule: may b come after p3, p2 and p1, the bytes three, two and one before it?
 fn may_follow(p3: u8, p2: u8, p1: u8, b: u8) -> bool
@@ -26,7 +37,7 @@ fn may_end(p3: u8, p2: u8, p1: u8) -> bool
 
 // The local rule at the first three bytes, before which there is nothing.
 fn starts(s: &[u8]) -> bool
-    requires { ⌜ 3 ≤ length (now s) ⌝ }
+    requires { ⌜ before ≤ length (now s) ⌝ }
     ensures { λ r. ⌜ utf8 (now (s .entry)) ≡ (r && goodFrom (now (s .entry)) 0) ⌝ }
 {
     let x = s[0];
@@ -37,7 +48,7 @@ fn starts(s: &[u8]) -> bool
 
 // The local rule in the n windows from a on. With no branch, and n known at the call, this becomes vector code.
 fn block(s: &[u8], a: usize, n: usize) -> bool
-    requires { ⌜ a + n + 3 ≤ length (now s) ⌝ }
+    requires { ⌜ a + n + before ≤ length (now s) ⌝ }
     ensures { λ r. ⌜ Checked (now (s .entry)) a (a + n) r ⌝ }
 {
     let mut pass = true;
@@ -57,29 +68,29 @@ fn smaller(a: usize, b: usize) -> usize
     if a < b { a } else { b }
 }
 
-// The local rule in the windows from a on, by blocks of 16. The last block ends at the end, and may look at some windows again.
+// The local rule in the windows from a on, by blocks. The last block ends at the end, and may look at some windows again.
 // One place calls block, so that its code is put into this loop.
 fn blocks(s: &[u8], a: usize) -> bool
-    requires { ⌜ (19 ≤ length (now s)) × Passing (now s) 0 a ⌝ }
-    ensures { λ r. ⌜ goodFrom (now (s .entry)) 0 ≡ (r && goodFrom (now (s .entry)) (length (now (s .entry)) - 3)) ⌝ }
+    requires { ⌜ (block-bytes ≤ length (now s)) × Passing (now s) 0 a ⌝ }
+    ensures { λ r. ⌜ goodFrom (now (s .entry)) 0 ≡ (r && goodFrom (now (s .entry)) (length (now (s .entry)) - before)) ⌝ }
 {
-    let last = s.len() - 19;
+    let last = s.len() - Window::BLOCK_BYTES;
     let mut i = a;
     loop {
         let at = smaller(i, last);
-        if !block(s, at, 16) {
+        if !block(s, at, Window::PER_BLOCK) {
             return false;
         }
         if last <= at {
             return true;
         }
-        i = at + 16;
+        i = at + Window::PER_BLOCK;
     }
 }
 
 // A text that has room for a block: its start, its windows, its end.
 pub fn long(s: &[u8]) -> bool
-    requires { ⌜ 19 ≤ length (now s) ⌝ }
+    requires { ⌜ block-bytes ≤ length (now s) ⌝ }
     ensures { λ r. ⌜ r ≡ utf8 (now (s .entry)) ⌝ }
 {
     if !starts(s) {

@@ -3,11 +3,23 @@ ghost use mathlib.Core.Path.{_≡_};
 ghost use Prim.Native.Nat.{_+_, _-_, _≤_, _<_};
 ghost use lib.Dec.{ltb};
 ghost use lib.ListN.{length, take, drop};
+ghost use Rattle.format.specs.Kind as Kind;
+ghost use Rattle.format.specs.Code as Code;
 ghost use Rattle.format.specs.Limits.{max-inline};
 ghost use Rattle.format.specs.Header.{shift, bigEndian, following, headerOf, width, header, isLong};
-ghost use Rattle.wire.specs.Heads.{wholeOf};
+ghost use Rattle.wire.specs.Heads.{sizes, max-following, wholeOf};
 ghost use Rattle.wire.specs.Widths.{reach};
 use format::Header;
+use format::Row;
+
+// The lead byte of a header: `sz` is counted by one, the code by as many as `sz` has values.
+pub struct Lead;
+
+impl Lead {
+    pub const SIZES: u8 = 32;
+    // The most bytes that follow it.
+    pub const MAX_FOLLOWING: usize = Header::MAX_SIZE - 1;
+}
 
 // A header that was read, or bytes that end inside it.
 pub enum Head {
@@ -15,9 +27,25 @@ pub enum Head {
     Whole(Header),
 }
 
+// The kind of row that a code stands for.
+pub fn kind_of(code: u8) -> u8
+    requires { ⌜ code ≤ Code.key ⌝ }
+    ensures { λ r. ⌜ r ≡ code + Kind.bytes ⌝ }
+{
+    code + Header::KIND_SHIFT
+}
+
+// The code of a kind that is not of a fixed size.
+pub fn code_of(kind: u8) -> u8
+    requires { ⌜ Kind.bytes ≤ kind ⌝ }
+    ensures { λ r. ⌜ r ≡ kind - Kind.bytes ⌝ }
+{
+    kind - Header::KIND_SHIFT
+}
+
 // The number in n bytes from a on, most significant first.
 pub fn number(s: &[u8], a: usize, n: usize) -> u64
-    requires { ⌜ (a + n ≤ length (now s)) × (n ≤ 8) ⌝ }
+    requires { ⌜ (a + n ≤ length (now s)) × (n ≤ max-following) ⌝ }
     ensures { λ r. ⌜ r ≡ bigEndian 0 (take n (drop a (now (s .entry)))) ⌝ }
 {
     let mut p: u64 = 0;
@@ -32,18 +60,18 @@ pub fn number(s: &[u8], a: usize, n: usize) -> u64
 
 // How many bytes to read for n of them: eight where there are as many, since how often a loop goes round has to be foretold.
 fn span(left: usize, n: usize) -> usize
-    requires { ⌜ (n ≤ left) × (n ≤ 8) ⌝ }
-    ensures { λ r. ⌜ (n ≤ r) × (r ≤ left) × (r ≤ 8) ⌝ }
+    requires { ⌜ (n ≤ left) × (n ≤ max-following) ⌝ }
+    ensures { λ r. ⌜ (n ≤ r) × (r ≤ left) × (r ≤ max-following) ⌝ }
 {
-    if 8 <= left {
-        return 8;
+    if Lead::MAX_FOLLOWING <= left {
+        return Lead::MAX_FOLLOWING;
     }
     n
 }
 
 // The payload in n bytes from a on.
 fn payload(s: &[u8], a: usize, n: usize) -> u64
-    requires { ⌜ (a + n ≤ length (now s)) × (1 ≤ n) × (n ≤ 8) ⌝ }
+    requires { ⌜ (a + n ≤ length (now s)) × (1 ≤ n) × (n ≤ max-following) ⌝ }
     ensures { λ r. ⌜ r ≡ bigEndian 0 (take n (drop a (now (s .entry)))) ⌝ }
 {
     // most payloads that are not in the lead byte
@@ -56,18 +84,18 @@ fn payload(s: &[u8], a: usize, n: usize) -> u64
 
 // How many bytes follow a lead byte.
 fn following(code: u8, sz: u8) -> usize
-    requires { ⌜ sz < 32 ⌝ }
+    requires { ⌜ sz < sizes ⌝ }
     ensures { λ r. ⌜ r ≡ following code sz ⌝ }
 {
     let z = sz as u64;
     if Header::MAX_INLINE < z {
         return (z - Header::MAX_INLINE) as usize;
     }
-    if code == 0 {
-        if sz == 3 {
+    if code == Header::BINARY {
+        if sz == Row::FLOAT32 {
             return 4;
         }
-        if sz == 4 {
+        if sz == Row::FLOAT64 {
             return 8;
         }
     }
@@ -79,7 +107,7 @@ fn inline_payload(code: u8, sz: u8) -> u64
     ensures { λ r. ⌜ r ≡ sz - shift code ⌝ }
 {
     let z = sz as u64;
-    if code == 0 {
+    if code == Header::BINARY {
         if z < Header::FIXED {
             return 0;
         }
@@ -96,17 +124,12 @@ pub fn header_at(s: &[u8], at: usize) -> Head
         return Head::Cut;
     }
     let lead = s[at];
-    let code = lead / 32;
-    let sz = lead % 32;
+    let code = lead / Lead::SIZES;
+    let sz = lead % Lead::SIZES;
     // most headers: one byte with the payload in it
-    if code != 0 {
+    if code != Header::BINARY {
         if sz as u64 <= Header::MAX_INLINE {
-            return Head::Whole(Header {
-                code,
-                sz,
-                payload: sz as u64,
-                size: 1,
-            });
+            return Head::Whole(Header::new(code, sz, sz as u64, 1));
         }
     }
     let n = following(code, sz);
@@ -115,19 +138,9 @@ pub fn header_at(s: &[u8], at: usize) -> Head
         return Head::Cut;
     }
     if n == 0 {
-        return Head::Whole(Header {
-            code,
-            sz,
-            payload: inline_payload(code, sz),
-            size: 1,
-        });
+        return Head::Whole(Header::new(code, sz, inline_payload(code, sz), 1));
     }
-    Head::Whole(Header {
-        code,
-        sz,
-        payload: payload(s, b, n),
-        size: 1 + n,
-    })
+    Head::Whole(Header::new(code, sz, payload(s, b, n), 1 + n))
 }
 
 // 1 where p is at least a bound, else 0.
@@ -155,7 +168,7 @@ pub fn width(p: u64) -> usize
 pub fn is_inline(code: u8, p: u64) -> bool
     ensures { λ r. ⌜ r ≡ ltb (p + shift code) (max-inline + 1) ⌝ }
 {
-    if code == 0 {
+    if code == Header::BINARY {
         return p <= Header::MAX_INLINE_BYTES;
     }
     p <= Header::MAX_INLINE
@@ -165,7 +178,7 @@ pub fn is_inline(code: u8, p: u64) -> bool
 pub fn header_len(code: u8, p: u64) -> usize
     ensures { λ r. ⌜ r ≡ length (header code p) ⌝ }
 {
-    if code == 0 {
+    if code == Header::BINARY {
         return width(p) + reaches(Header::MAX_INLINE_BYTES + 1, p);
     }
     width(p) + reaches(Header::MAX_INLINE + 1, p)

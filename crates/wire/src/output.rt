@@ -5,14 +5,16 @@ ghost use Prim.Native.Nat.{_+_, _*_, _≤_, _<_};
 ghost use lib.ListN.{length, drop};
 ghost use Rattle.format.specs.Limits.{max-inline};
 ghost use Rattle.format.specs.Header.{shift, digits, header};
+ghost use Rattle.wire.specs.Heads.{sizes, codes, max-following};
 ghost use Rattle.wire.specs.Output.{Puts};
+use crate::header::Lead;
 use crate::header::is_inline;
 use crate::header::width;
 use format::Header;
 
 // n in k bytes, most significant first.
 pub fn put_number(out: &mut [u8], k: usize, n: u64) -> usize
-    requires { ⌜ (k ≤ 8) × (k ≤ length (now out)) ⌝ }
+    requires { ⌜ (k ≤ max-following) × (k ≤ length (now out)) ⌝ }
     ensures { λ r. ⌜ (r ≡ k) × (now (out .exit) ≡ digits k n ++ drop k (now (out .entry))) ⌝ }
 {
     let mut i = 0;
@@ -25,18 +27,18 @@ pub fn put_number(out: &mut [u8], k: usize, n: u64) -> usize
 
 // The lead byte that has the payload in it.
 fn inline_lead(code: u8, p: u64) -> u8
-    requires { ⌜ (code < 8) × (p + shift code ≤ max-inline) ⌝ }
-    ensures { λ r. ⌜ r ≡ code * 32 + (p + shift code) ⌝ }
+    requires { ⌜ (code < codes) × (p + shift code ≤ max-inline) ⌝ }
+    ensures { λ r. ⌜ r ≡ code * sizes + (p + shift code) ⌝ }
 {
-    if code == 0 {
+    if code == Header::BINARY {
         return (p + Header::FIXED) as u8;
     }
-    code * 32 + p as u8
+    code * Lead::SIZES + p as u8
 }
 
 // The shortest header.
 pub fn put_header(out: &mut [u8], code: u8, p: u64) -> usize
-    requires { ⌜ (code < 8) × (length (header code p) ≤ length (now out)) ⌝ }
+    requires { ⌜ (code < codes) × (length (header code p) ≤ length (now out)) ⌝ }
     ensures { λ r. ⌜ Puts (header code p) r (now (out .entry)) (now (out .exit)) ⌝ }
 {
     if is_inline(code, p) {
@@ -44,12 +46,12 @@ pub fn put_header(out: &mut [u8], code: u8, p: u64) -> usize
         return 1;
     }
     if p < 256 {
-        out[0] = code * 32 + Header::MAX_INLINE as u8 + 1;
+        out[0] = code * Lead::SIZES + Header::MAX_INLINE as u8 + 1;
         out[1] = p as u8;
         return 2;
     }
     let k = width(p);
-    out[0] = code * 32 + Header::MAX_INLINE as u8 + k as u8;
+    out[0] = code * Lead::SIZES + Header::MAX_INLINE as u8 + k as u8;
     1 + put_number(&mut out[1..], k, p)
 }
 

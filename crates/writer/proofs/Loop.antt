@@ -10,8 +10,10 @@ use Rattle.format.specs.declared.row.Row.{Row}
 use Rattle.format.specs.Names.{namesFrom}
 use Rattle.format.specs.Place.{top}
 use Rattle.format.specs.Writing.{begin}
+use Rattle.format.specs.Limits.{max-bytes, max-depth, max-entries, max-rows}
+use Rattle.rows.specs.Plan.{plan-size}
 use Rattle.format.proofs.Tests.{equal}
-use Rattle.symbols.specs.Chains.{Chained}
+use Rattle.symbols.specs.Chains.{links-size, Chained}
 use Rattle.encoder.proofs.MeasureLaws.{measured-none}
 use Rattle.rows.specs.declared.state.State.{State}
 use Rattle.rows.specs.Stack.{bottom, openedOf}
@@ -24,7 +26,7 @@ blank = record { kind = 0; number = 0; start = 0 }
 
 module _ (text : List ℕ) (rs : List Row) (n : ℕ) where
   -- before the first row
-  none : (plan : List ℕ) → length plan ≡ 1533 → After text (replicate 256 0) (replicate 768 0) (replicate 32 0) plan [] (begun n)
+  none : (plan : List ℕ) → length plan ≡ plan-size → After text (replicate max-entries 0) (replicate links-size 0) (replicate max-depth 0) plan [] (begun n)
   unfolding begun begin top bottom openedOf namesFrom
   none plan long =
       record {
@@ -36,11 +38,11 @@ module _ (text : List ℕ) (rs : List Row) (n : ℕ) where
         row = refl;
         rows = refl;
         small = zero-le;
-        stands = record { size = length-replicate {A = ℕ} 32 0; deep = zero-le; high = omega arith; opened = refl; key = refl };
+        stands = record { size = length-replicate {A = ℕ} max-depth 0; deep = zero-le; high = omega arith; opened = refl; key = refl };
         measured = measured-none text text plan long (omega arith);
       }
 
-  pub judging-start : (plan : List ℕ) → length plan ≡ 1533 → Judging text rs n (replicate 256 0) (replicate 768 0) (replicate 32 0) plan (begun n)
+  pub judging-start : (plan : List ℕ) → length plan ≡ plan-size → Judging text rs n (replicate max-entries 0) (replicate links-size 0) (replicate max-depth 0) plan (begun n)
   unfolding begun
   judging-start plan long = record { going = λ e. (refl, (zero-le, none plan long)); stopped = λ h. absurd (h refl) }
 
@@ -50,7 +52,7 @@ module _ (text : List ℕ) (rs : List Row) (n : ℕ) where
     going less = equal (s .error) 0 (g .going) (λ h. absurd (omega (arith, g .stopped h .0)))
 
     -- what `step` asks
-    pub judging-ready : s .row < s .end → n ≤ 1024 → (0 < n → length text ≤ 16384) → Ready text st s × Chained text text es links (s .names) × (length plan ≡ 1533)
+    pub judging-ready : s .row < s .end → n ≤ max-rows → (0 < n → length text ≤ max-bytes) → Ready text st s × Chained text text es links (s .names) × (length plan ≡ plan-size)
     judging-ready less few short =
         let (end, (le, a)) = going less in (
           record {

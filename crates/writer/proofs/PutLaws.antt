@@ -15,6 +15,8 @@ use Rattle.format.specs.Names.{namesFrom}
 use Rattle.format.specs.Canonical.{canonical, canonicalFrom}
 use Rattle.format.specs.Rows.{itemAt, itemsAt}
 use Rattle.format.specs.Writing.{isBad}
+use Rattle.format.specs.Limits.{max-bytes, max-entries, max-rows}
+use Rattle.rows.specs.Plan.{plan-size}
 use Rattle.format.proofs.Lists.{all-at, map-append}
 use Rattle.wire.specs.Output.{Puts}
 use Rattle.encoder.specs.Output.{PutsAt}
@@ -46,7 +48,7 @@ module _ (text plan : List ℕ) (rows : List Row) (n capacity : ℕ) (p : Puttin
   planned : Planned plan (xs ++ (x ∷ itemsAt text later))
   planned = rw items-split at (p .planned)
 
-  few : length (namesFrom [] (xs ++ (x ∷ itemsAt text later))) ≤ 256
+  few : length (namesFrom [] (xs ++ (x ∷ itemsAt text later))) ≤ max-entries
   few = rw (← items-split) (p .few)
 
   fits : length (canonical (xs ++ (x ∷ itemsAt text later))) ≤ capacity
@@ -54,7 +56,7 @@ module _ (text plan : List ℕ) (rows : List Row) (n capacity : ℕ) (p : Puttin
 
   -- what `put_next` asks
   pub next-asks : (at : ℕ) (new : List ℕ) → length new ≡ capacity → at ≡ length (canonical xs)
-      → (i < 1024) × (length plan ≡ 1533) × (length text ≤ 16384) × (isBad text (getD rows i blank) ≡ false) × (at + length (encodedAt plan i x) ≤ length new)
+      → (i < max-rows) × (length plan ≡ plan-size) × (length text ≤ max-bytes) × (isBad text (getD rows i blank) ≡ false) × (at + length (encodedAt plan i x) ≤ length new)
   next-asks at new e f =
       (lt-of-lt-of-le lt (rw (length-map (take n rows) (itemAt text), length-take-le n rows le) at (p .planned .long)), p .long, p .short (rw (length-take-le n rows le) (omega arith)), sound, rw (e, f) (rw count at (one-fits plan capacity xs x (itemsAt text later) planned few fits)))
     where

@@ -14,7 +14,7 @@ use Rattle.format.specs.declared.error.Error.{Error}
 use Rattle.format.specs.declared.error.Error.the-variants.{OutputTooLong, TooLong, TooManyEntries, TooManyRows, Truncated}
 use Rattle.format.specs.Error.{codeOf}
 use Rattle.format.specs.Choice.{_||_, pick}
-use Rattle.format.specs.Limits.{max-bytes, max-rows}
+use Rattle.format.specs.Limits.{max-entries, max-bytes, max-rows}
 use Rattle.format.specs.Answer.{Answer, counted, fail, failed, good, stored, then}
 use Rattle.format.specs.Names.{namesFrom}
 use Rattle.format.specs.Place.{due}
@@ -33,6 +33,7 @@ use Rattle.writer.specs.Verdict.{Passed, Verdict}
 use Rattle.rows.proofs.StackLaws.{opened-length}
 use Rattle.symbols.proofs.ChainLaws.{length-names}
 use Rattle.format.specs.Written.{answerOf}
+use Rattle.rows.specs.Plan.{plan-size}
 use Rattle.writer.specs.Extent.{limitOf, rowsIn}
 
 -- ---- how many rows are judged
@@ -50,7 +51,7 @@ unfolding limitOf
 limit-all l m = pick-no _ _ (or-no (ltb-no l) (ltb-no m))
 
 -- what `judge` asks
-pub judge-asks : (rs : List Row) (text plan : List ℕ) (n : ℕ) → n ≡ limitOf (length rs) (length text) → length plan ≡ 1533 → (n ≤ length rs) × (n ≤ 1024) × (0 < n → length text ≤ 16384) × (length plan ≡ 1533)
+pub judge-asks : (rs : List Row) (text plan : List ℕ) (n : ℕ) → n ≡ limitOf (length rs) (length text) → length plan ≡ plan-size → (n ≤ length rs) × (n ≤ max-rows) × (0 < n → length text ≤ max-bytes) × (length plan ≡ plan-size)
 judge-asks rs text plan n e long =
     order (length rs) max-rows
     (λ l. order (length text) max-bytes (λ m. let z = e ∙ limit-all l m in (omega arith, omega arith, λ _. m, long)) (λ m. let z = e ∙ limit-text (length rs) m in (omega arith, omega arith, λ q. absurd (omega arith), long)))
@@ -81,10 +82,10 @@ module _ {text plan : List ℕ} {rs : List Row} {s : State} (g : Passed text pla
   unfolding judge
   passed-ends = rw (append-nil rs) at (g .after .run []) ∙ rw (passed-due, g .after .row)
 
-  measured : Measured 1533 text text (g .es) (g .links) plan (itemsAt text rs) (s .names) (s .size)
+  measured : Measured plan-size text text (g .es) (g .links) plan (itemsAt text rs) (s .names) (s .size)
   measured = rw (g .after .items) at (g .after .measured)
 
-  few-names : length (namesFrom [] (itemsAt text rs)) ≤ 256
+  few-names : length (namesFrom [] (itemsAt text rs)) ≤ max-entries
   few-names = let m = measured in omega (arith, ap length (m .names), length-names (m .table .table), m .table .table .few)
 
 module _ (rs : List Row) (text : List ℕ) (capacity : ℕ) where
@@ -174,7 +175,7 @@ putting-all g capacity short fits =
     let m = measured g in
     record { long = m .plan-size; short = λ _. short; fine = g .after .fine; planned = m .planned; few = few-names g; fits = fits }
 
-putting-none : (text plan : List ℕ) (rs : List Row) (capacity : ℕ) → length plan ≡ 1533 → Putting text plan (take 0 rs) capacity
+putting-none : (text plan : List ℕ) (rs : List Row) (capacity : ℕ) → length plan ≡ plan-size → Putting text plan (take 0 rs) capacity
 unfolding namesFrom canonical canonicalFrom
 putting-none text plan rs capacity long =
     record {
@@ -206,7 +207,7 @@ wrote text plan rs capacity s bs v e =
     (λ m. failed-good (sym (writing-text rs text capacity few m) ∙ e)))
     (λ l. failed-good (sym (writing-rows rs text capacity l) ∙ e))
 
-module _ (rs : List Row) (text plan out : List ℕ) (s : State) (v : Verdict text plan (take (limitOf (length rs) (length text)) rs) s) (long : length plan ≡ 1533) where
+module _ (rs : List Row) (text plan out : List ℕ) (s : State) (v : Verdict text plan (take (limitOf (length rs) (length text)) rs) s) (long : length plan ≡ plan-size) where
   abbrev n : ℕ
   n = limitOf (length rs) (length text)
 

@@ -7,10 +7,11 @@ use Rattle.format.specs.declared.row.Row.{Row}
 use Rattle.format.specs.Writing.{begin, judge}
 use Rattle.rows.specs.declared.state.State.{State}
 use Rattle.rows.specs.Judging.{After, RefusedAs}
+use Rattle.rows.specs.Stack.{top-fields}
 
 -- The state before the first of n rows.
 unfoldable pub begun : ℕ → State
-begun n = record { row = 0; end = n; depth = 0; left = 1025; keyed = 0; names = 0; size = 0; error = 0 }
+begun n = record { row = 0; end = n; depth = 0; left = top-fields; keyed = 0; names = 0; size = 0; error = 0 }
 
 -- Where judging the first n rows has come to.
 pub record Judging (text : List ℕ) (rs : List Row) (n : ℕ) (es links st plan : List ℕ) (s : State) : Type 0 where

@@ -2,6 +2,8 @@
 ghost use mathlib.Core.Path.{_≡_};
 ghost use Prim.Native.Nat.{_≤_, _<_};
 ghost use lib.ListN.{length, take};
+ghost use Rattle.format.specs.Limits.{max-bytes, max-rows};
+ghost use Rattle.rows.specs.Plan.{plan-size};
 ghost use Rattle.writer.specs.Verdict.{begun, Verdict};
 use format::Bundle;
 use format::Row;
@@ -29,7 +31,7 @@ fn begin(n: usize) -> State
 
 // Judges and measures the first n rows, and notes how each name is to be written.
 pub fn judge(rows: &[Row], text: &[u8], plan: &mut [u16; Plan::SIZE], n: usize) -> State
-    requires { ⌜ (n ≤ length (now rows)) × (n ≤ 1024) × (0 < n → length (now text) ≤ 16384) × (length (now plan) ≡ 1533) ⌝ }
+    requires { ⌜ (n ≤ length (now rows)) × (n ≤ max-rows) × (0 < n → length (now text) ≤ max-bytes) × (length (now plan) ≡ plan-size) ⌝ }
     ensures { λ r. ⌜ Verdict (now (text .entry)) (now (plan .exit)) (take n (now (rows .entry))) r ⌝ }
 {
     let mut entries = [0u64; SymbolTable::MAX_ENTRIES];

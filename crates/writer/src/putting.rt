@@ -3,6 +3,7 @@ ghost use mathlib.Core.Path.{_≡_};
 ghost use mathlib.Core.Bool.{false};
 ghost use Prim.Native.Nat.{_+_, _≤_, _<_};
 ghost use lib.ListN.{length, take};
+ghost use Rattle.format.specs.Limits.{max-bytes, max-rows};
 ghost use Rattle.format.specs.Answer.{good, stored};
 ghost use Rattle.format.specs.Canonical.{canonical};
 ghost use Rattle.format.specs.Rows.{itemAt, itemsAt};
@@ -10,6 +11,7 @@ ghost use Rattle.format.specs.Writing.{isBad};
 ghost use Rattle.wire.specs.Output.{Puts};
 ghost use Rattle.encoder.specs.Output.{PutsAt};
 ghost use Rattle.encoder.specs.Plan.{encodedAt};
+ghost use Rattle.rows.specs.Plan.{plan-size};
 ghost use Rattle.writer.specs.Putting.{Putting};
 use encoder::putting::put_fixed;
 use encoder::putting::put_named;
@@ -18,24 +20,25 @@ use format::Row;
 use rows::Plan;
 use rows::content;
 use rows::has_content;
+use wire::header::code_of;
 use wire::output::put_header;
 
 // One row.
 fn put_row(out: &mut [u8], text: &[u8], plan: &[u16; Plan::SIZE], i: usize, row: Row) -> usize
-    requires { ⌜ (i < 1024) × (length (now plan) ≡ 1533) × (length (now text) ≤ 16384) × (isBad (now text) row ≡ false) × (length (encodedAt (now plan) i (itemAt (now text) row)) ≤ length (now out)) ⌝ }
+    requires { ⌜ (i < max-rows) × (length (now plan) ≡ plan-size) × (length (now text) ≤ max-bytes) × (isBad (now text) row ≡ false) × (length (encodedAt (now plan) i (itemAt (now text) row)) ≤ length (now out)) ⌝ }
     ensures { λ r. ⌜ Puts (encodedAt (now (plan .entry)) i (itemAt (now (text .entry)) row)) r (now (out .entry)) (now (out .exit)) ⌝ }
 {
     let kind = row.kind;
-    if kind < 5 {
+    if kind < Row::BYTES {
         return put_fixed(out, kind, row.number);
     }
-    if 10 <= kind {
-        return put_named(out, plan[i], kind - 5, row.number, content(text, row));
+    if Row::SYMBOL <= kind {
+        return put_named(out, plan[i], code_of(kind), row.number, content(text, row));
     }
     if has_content(kind) {
-        return put_sized(out, kind - 5, row.number, content(text, row));
+        return put_sized(out, code_of(kind), row.number, content(text, row));
     }
-    put_header(out, kind - 5, row.number)
+    put_header(out, code_of(kind), row.number)
 }
 
 // Row i, at an offset: the offset after it.
@@ -47,7 +50,7 @@ fn put_next(
     i: usize,
     row: Row,
 ) -> usize
-    requires { ⌜ (i < 1024) × (length (now plan) ≡ 1533) × (length (now text) ≤ 16384) × (isBad (now text) row ≡ false) × (at + length (encodedAt (now plan) i (itemAt (now text) row)) ≤ length (now out)) ⌝ }
+    requires { ⌜ (i < max-rows) × (length (now plan) ≡ plan-size) × (length (now text) ≤ max-bytes) × (isBad (now text) row ≡ false) × (at + length (encodedAt (now plan) i (itemAt (now text) row)) ≤ length (now out)) ⌝ }
     ensures { λ r. ⌜ PutsAt at (encodedAt (now (plan .entry)) i (itemAt (now (text .entry)) row)) r (now (out .entry)) (now (out .exit)) ⌝ }
 {
     at + put_row(&mut out[at..], text, plan, i, row)

@@ -6,6 +6,7 @@ use Rattle.joiner.proofs.MergeLaws.{rows-over, names-over, size-over, p
 use borrow.Author.Needs.{needs}
 use Rattle.joiner.proofs.merging.merge.Statement.{statement}
 use Rattle.joiner.proofs.merging.merge.Tie as tie
+use Rattle.format.specs.Limits.{max-rows}
 
 fail-requires : tie.Need-fail-requires
 fail-requires c κs = search needs
@@ -18,7 +19,7 @@ returns c =
 measure-both-requires : tie.Need-measure-both-requires
 measure-both-requires c κs =
     let pre′ = c .before .before .before .before .before .pre in
-    (record { rows = _; both = pre′; few = c .before .if1 .left }, length-replicate {A = ℕ} 1024 0)
+    (record { rows = _; both = pre′; few = c .before .if1 .left }, length-replicate {A = ℕ} max-rows 0)
 
 fail-requires-2 : tie.Need-fail-requires-2
 fail-requires-2 c κs = search needs

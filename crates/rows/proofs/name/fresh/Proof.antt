@@ -2,6 +2,7 @@
 use native.Mathlib.Omega.{arith}
 use mathlib.Core.Path.{refl, ap, _∙_}
 use Prim.Native.Nat.{ℕ, _+_, _-_}
+use Rattle.format.specs.Kind as Kind
 use Rattle.rows.specs.Steps.{namedBy}
 use Rattle.encoder.proofs.Lengths.{header-most}
 use Rattle.rows.proofs.JudgeLaws.{ready-more}
@@ -27,24 +28,31 @@ mul-plan-2 c = search needs
 element-write-plan-2 : tie.Need-element-write-plan-2
 element-write-plan-2 c = search needs
 
-sub-header-len : tie.Need-sub-header-len
-sub-header-len c = search needs
+code-of-requires : tie.Need-code-of-requires
+code-of-requires c κs = search needs
 
 header-len-requires : tie.Need-header-len-requires
 header-len-requires c κs = search needs
 
 add-n : tie.Need-add-n
-add-n c = let r = c .before .before .args .row in omega (arith, c .header-len .ensures, header-most (r .kind - 5) (r .number) (omega (arith, c .before .before .pre .5)), c .before .before .pre .5)
+add-n c =
+    let r = c .before .before .args .row in
+    let h = rw (c .before .code-of .ensures) at (c .header-len .ensures) in
+    omega (arith, h, header-most (r .kind - Kind.bytes) (r .number) (omega (arith, c .before .before .pre .5)), c .before .before .pre .5)
 
 add-named : tie.Need-add-named
 add-named c = search needs
 
 named-requires : tie.Need-named-requires
-named-requires c κs = let r = c .before .before .args .row in
-    ready-more (c .before .before .pre .0 .1) _ (omega (arith, c .header-len .ensures, header-most (r .kind - 5) (r .number) (omega (arith, c .before .before .pre .5)), c .before .before .pre .5))
+named-requires c κs =
+    let r = c .before .before .args .row in
+    let h = rw (c .before .code-of .ensures) at (c .header-len .ensures) in
+    ready-more (c .before .before .pre .0 .1) _ (omega (arith, h, header-most (r .kind - Kind.bytes) (r .number) (omega (arith, c .before .before .pre .5)), c .before .before .pre .5))
 
 returns : tie.Need-returns
-returns c = (c .named .ensures ∙ ap (namedBy _ _ _ _) (ap (λ (n : ℕ). n + c .before .before .before .args .row .number) (c .before .header-len .ensures)), refl)
+returns c =
+    let h = rw (c .before .before .code-of .ensures) at (c .before .header-len .ensures) in
+    (c .named .ensures ∙ ap (namedBy _ _ _ _) (ap (λ (n : ℕ). n + c .before .before .before .args .row .number) h), refl)
 
 pub fresh-spec : {M : Type 1} → statement M
 fresh-spec =
@@ -56,7 +64,7 @@ fresh-spec =
     element-write-plan
     mul-plan-2
     element-write-plan-2
-    sub-header-len
+    code-of-requires
     header-len-requires
     add-n
     add-named

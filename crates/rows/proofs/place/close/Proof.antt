@@ -6,9 +6,10 @@ use Rattle.rows.specs.Stack.{bottom, closed}
 use Rattle.rows.proofs.StackLaws.{top-left, close-out, bottom-out, close-here}
 use Rattle.rows.proofs.place.close.Statement.{statement}
 use Rattle.rows.proofs.place.close.Tie as tie
+use Rattle.format.specs.Limits.{max-depth}
 
 abbrev Inv-loop : tie.InvT-loop
-Inv-loop stack depth left d₀ l₀ d l = (d ≤ 32) × (2 ≤ bottom stack d l) × (closed stack d l ≡ closed stack depth left)
+Inv-loop stack depth left d₀ l₀ d l = (d ≤ max-depth) × (2 ≤ bottom stack d l) × (closed stack d l ≡ closed stack depth left)
 
 abbrev μ-loop : tie.MeasureT-loop
 μ-loop stack depth left d₀ l₀ d l = d

@@ -44,38 +44,40 @@ returns-2 c = λ es links plan xs a.
     refuse-next a r invalid-utf8 (c .refuse2 .ensures)
     (plain-text a r (p .1) fine (content-kinds (r .kind) (p .2) .1 .1) (ap (λ bs. eqb (r .kind) 9 && not (utf8 bs)) (sym (c .before .before .before .content .ensures)) ∙ sym (c .before .before .bad-text .ensures) ∙ c .before .if2 .taken))
 
-sub-header-len : tie.Need-sub-header-len
-sub-header-len c = let p = c .before .before .before .before .before .before .pre in omega (arith, content-kinds (c .before .before .before .before .before .before .args .row .kind) (p .2) .0)
+code-of-requires : tie.Need-code-of-requires
+code-of-requires c κs = let p = c .before .before .before .before .before .before .pre in omega (arith, content-kinds (c .before .before .before .before .before .before .args .row .kind) (p .2) .0)
 
 header-len-requires : tie.Need-header-len-requires
 header-len-requires c κs = search needs
 
 add-n : tie.Need-add-n
 add-n c =
-    let p = c .before .before .before .before .before .before .before .pre in
-    let r = c .before .before .before .before .before .before .before .args .row in
-    let text = c .before .before .before .before .before .before .before .args .text .now in
-    let fine = content-bad text r (p .2) (omega (arith, p .1)) ∙ sym (c .before .before .before .before .before .outside .ensures) ∙ c .before .before .before .before .if1 .left in
-    omega (arith, content-small text r (p .2) fine (p .0 .short) _ (c .header-len .ensures))
-
-value-requires : tie.Need-value-requires
-value-requires c κs =
-    let p = c .before .before .before .before .before .before .before .pre in
-    let r = c .before .before .before .before .before .before .before .args .row in
-    let text = c .before .before .before .before .before .before .before .args .text .now in
-    let fine = content-bad text r (p .2) (omega (arith, p .1)) ∙ sym (c .before .before .before .before .before .outside .ensures) ∙ c .before .before .before .before .if1 .left in
-    ready-more (p .0) _ (content-small text r (p .2) fine (p .0 .short) _ (c .header-len .ensures))
-
-returns-3 : tie.Need-returns-3
-returns-3 c = λ es links plan xs a.
     let p = c .before .before .before .before .before .before .before .before .pre in
     let r = c .before .before .before .before .before .before .before .before .args .row in
     let text = c .before .before .before .before .before .before .before .before .args .text .now in
     let fine = content-bad text r (p .2) (omega (arith, p .1)) ∙ sym (c .before .before .before .before .before .before .outside .ensures) ∙ c .before .before .before .before .before .if1 .left in
+    let h = rw (c .before .code-of .ensures) at (c .header-len .ensures) in
+    omega (arith, content-small text r (p .2) fine (p .0 .short) _ h)
+
+value-requires : tie.Need-value-requires
+value-requires c κs =
+    let p = c .before .before .before .before .before .before .before .before .pre in
+    let r = c .before .before .before .before .before .before .before .before .args .row in
+    let text = c .before .before .before .before .before .before .before .before .args .text .now in
+    let fine = content-bad text r (p .2) (omega (arith, p .1)) ∙ sym (c .before .before .before .before .before .before .outside .ensures) ∙ c .before .before .before .before .before .if1 .left in
+    let h = rw (c .before .code-of .ensures) at (c .header-len .ensures) in
+    ready-more (p .0) _ (content-small text r (p .2) fine (p .0 .short) _ h)
+
+returns-3 : tie.Need-returns-3
+returns-3 c = λ es links plan xs a.
+    let p = c .before .before .before .before .before .before .before .before .before .pre in
+    let r = c .before .before .before .before .before .before .before .before .before .args .row in
+    let text = c .before .before .before .before .before .before .before .before .before .args .text .now in
+    let fine = content-bad text r (p .2) (omega (arith, p .1)) ∙ sym (c .before .before .before .before .before .before .before .outside .ensures) ∙ c .before .before .before .before .before .before .if1 .left in
     let n = content-kinds (r .kind) (p .2) .1 .1 in
-    let h = c .before .header-len .ensures in
+    let h = rw (c .before .before .code-of .ensures) at (c .before .header-len .ensures) in
     value-next a r _ _ (c .value .ensures) (p .0 .row) (content-small text r (p .2) fine (p .0 .short) _ h)
-    (value-none a r (p .1) fine n (ap (λ bs. eqb (r .kind) 9 && not (utf8 bs)) (sym (c .before .before .before .before .content .ensures)) ∙ sym (c .before .before .before .bad-text .ensures) ∙ c .before .before .if2 .left))
+    (value-none a r (p .1) fine n (ap (λ bs. eqb (r .kind) 9 && not (utf8 bs)) (sym (c .before .before .before .before .before .content .ensures)) ∙ sym (c .before .before .before .before .bad-text .ensures) ∙ c .before .before .before .if2 .left))
     (no-key a r (p .1)) (no-container a r n) (measured-plain a r (p .1) _ (p .0 .row) (content-full text r (p .2) fine _ h))
 
 pub content-row-spec : {M : Type 1} → statement M
@@ -89,7 +91,7 @@ content-row-spec =
     bad-text-requires
     refuse-requires-2
     returns-2
-    sub-header-len
+    code-of-requires
     header-len-requires
     add-n
     value-requires
