@@ -14,7 +14,7 @@ use Rattle.format.specs.Choice.{_&&_}
 use Rattle.format.specs.Header.{headerOf}
 use Rattle.format.specs.Item.{Item, isName}
 use Rattle.format.specs.Names.{index, namesFrom, noted}
-use Rattle.format.specs.Reading.{State, after, formOf, isContent, itemsOf}
+use Rattle.format.specs.Reading.{State, after, formOf, isContent, itemsOf, lenient}
 use Rattle.format.specs.Canonical.{canonical, full}
 use Rattle.format.proofs.Tests.{cases, order, and-true, and-right, leb-false, ltb-false, pick-yes, pick-no}
 use Rattle.format.proofs.Lists.{items-at, items-snoc, length-items}
@@ -22,6 +22,8 @@ use Rattle.format.proofs.Headers.{size-within}
 use Rattle.format.proofs.Names.{index-at}
 use Rattle.format.proofs.Encoding.{at-lt}
 use Rattle.format.proofs.Bounds.{noted-self}
+use Rattle.format.proofs.Forms.{form-reference}
+use Rattle.format.proofs.Turns.{Turn, turn, header-within, items-all, items-more, reference-is}
 use Rattle.encoder.specs.Output.{PutsAt}
 use Rattle.encoder.specs.Plan.{Planned, encodedAt, referTo, referring}
 use Rattle.encoder.proofs.MeasureLaws.{names-more}
@@ -32,13 +34,12 @@ use Rattle.rewriter.specs.Items.{rewritten, contentLength, Whole}
 use Rattle.rewriter.specs.Measuring.{Mapped}
 use Rattle.rewriter.specs.Putting.{Planning, Putting, Onward}
 use Rattle.rewriter.proofs.MapLaws.{mapped-noted, mapped-entry}
-use Rattle.rewriter.proofs.Turns.{Turn, turn, header-within, items-all, items-more}
-use Rattle.rewriter.proofs.Arms.{number-code, fixed-code, form-held, number-plain, number-full, fixed-plain, fixed-full, content-plain, content-full, name-is, reference-entry}
+use Rattle.rewriter.proofs.Arms.{number-code, fixed-code, form-held, number-plain, number-full, fixed-plain, fixed-full, content-plain, content-full, name-is}
 use Rattle.rewriter.proofs.Rewritten.{rewritten-number, rewritten-reference, rewritten-fixed, rewritten-name, rewritten-sized}
 
 module _ {s : List ℕ} {zs ws : List Item} {u : State} {plan old : List ℕ} (g : Planning s zs ws u plan (length old)) {new : List ℕ} {w : Spot} (p : Putting s zs u old new w)
     {h : Header} (e : some h ≡ headerOf (drop (w .at) s)) where
-  turned : Turn s (p .state) u h
+  turned : Turn lenient s (p .state) u h
   turned = turn s (p .reads) (rw (p .offset) e)
 
   abbrev st : State
@@ -78,7 +79,7 @@ module _ {s : List ℕ} {zs ws : List Item} {u : State} {plan old : List ℕ} (g
 
   module _ (hi : 7 ≤ h .code) where
     entry : (isName x ≡ true) × (index x (namesFrom [] ys) ≡ some (getD (p .to) (h .payload) 0))
-    entry = p .mapped .at (h .payload) x (items-at (st .entries) (h .payload) (reference-entry turned hi))
+    entry = p .mapped .at (h .payload) x (items-at (st .entries) (h .payload) (reference-is turned (form-reference h hi)))
 
     -- an entry has an index
     refers : getD plan (length ys) 0 ≡ getD (p .to) (h .payload) 0

@@ -1,5 +1,5 @@
 -- An item of a bundle that reads, by its header and what stands after it.
-use Prim.Native.Nat.{ℕ, _+_, _-_, _^_, _≤_, min}
+use Prim.Native.Nat.{ℕ, _+_, _≤_}
 use mathlib.Core.Path.{_≡_}
 use mathlib.Core.Bool.{true}
 use mathlib.Core.List.{List, [], _++_}
@@ -10,11 +10,8 @@ use Rattle.format.specs.declared.header.Header.{Header}
 use Rattle.format.specs.Header.{header}
 use Rattle.format.specs.Reading.{formOf, isContent}
 use Rattle.format.specs.Canonical.{full}
+use Rattle.wire.specs.Numbers.{numberOf}
 use Rattle.encoder.specs.Plan.{referring}
-
--- The number of an integer or a container.
-unfoldable pub numberOf : ℕ → ℕ → ℕ
-numberOf code p = pick (eqb code 2) (min p (2 ^ 64 - 2)) p
 
 -- A header in its shortest form and the content, which begins at next.
 unfoldable pub sized : List ℕ → ℕ → Header → List ℕ

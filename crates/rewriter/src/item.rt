@@ -7,7 +7,6 @@ ghost use lib.Dec.{leb, ltb, eqb};
 ghost use lib.ListN.{length};
 ghost use Rattle.format.specs.Choice.{_&&_};
 ghost use Rattle.format.specs.Header.{header, headerOf};
-ghost use Rattle.rewriter.specs.Items.{numberOf};
 use format::Header;
 use wire::header::header_len;
 
@@ -29,19 +28,6 @@ pub fn is_fixed(code: u8, sz: u8) -> bool
         return false;
     }
     sz < 5
-}
-
-// The number of an integer or a container: the negative alias stands for the least integer.
-pub fn number_of(code: u8, p: u64) -> u64
-    ensures { λ r. ⌜ r ≡ numberOf code p ⌝ }
-{
-    // the payload first: signs of integers cannot be foretold
-    if p == 18446744073709551615 {
-        if code == 2 {
-            return 18446744073709551614;
-        }
-    }
-    p
 }
 
 // The length of the shortest header in place of one that was read: one byte stays one byte.

@@ -68,7 +68,7 @@ returns-4 c =
     λ zs u w p.
     let z = fixed-code (s .args .h .code) (s .args .h .sz) (sym (c .before .before .is-fixed .ensures) ∙ c .before .if4 .taken) in
     let v = turned w p (s .pre .1) in
-    plain-on w p (s .pre .1) _ 0 _ (omega arith) (fixed-plain v (z .0) (z .1)) (fixed-length v (z .0) (z .1) (rw (p .offset) (s .pre .1))) (omega (arith, inside w p (s .pre .1), w .short)) (c .after2 .ensures)
+    plain-on w p (s .pre .1) _ 0 _ (omega arith) (fixed-plain v (z .0) (z .1)) (fixed-length v (z .0) (z .1)) (omega (arith, inside w p (s .pre .1), w .short)) (c .after2 .ensures)
 
 shortest-len-requires-2 : tie.Need-shortest-len-requires-2
 shortest-len-requires-2 c κs =
