@@ -4,7 +4,7 @@ use mathlib.Core.Logic.{_≢_}
 use mathlib.Core.Bool.{true, false}
 use mathlib.Core.List.{List, [], _∷_}
 use mathlib.Core.Option.{some}
-use Prim.Native.Nat.{ℕ, _+_, _%_, _≤_, _<_}
+use Prim.Native.Nat.{ℕ, _+_, _≤_, _<_}
 use native.Mathlib.Omega.{arith}
 use lib.Dec.{leb, ltb, eqb}
 use lib.ListN.{length, drop, getD, length-append}
@@ -14,19 +14,20 @@ use Rattle.format.specs.declared.error.Error.the-variants.{TooDeep, UnexpectedK
 use Rattle.format.specs.Choice.{pick, _&&_}
 use Rattle.format.specs.Limits.{max-depth}
 use Rattle.format.specs.Answer.{fail}
+use Rattle.format.specs.Kind as Kind
 use Rattle.format.specs.Item.{Item, isKey, isContainer}
 use Rattle.format.specs.Place.{Place, keyAfterKey, tooDeep, ended, moved}
 use Rattle.format.specs.Reading.{Options, State, Found, Form, fixed, reference, formOf, isContent, itemOf, after, headed}
 use Rattle.format.proofs.Tests.{cases, eqb-yes, eqb-no, leb-yes, leb-no, ltb-yes, ltb-no, and-no-left, and-no-right, and-yes, pick-yes, pick-no}
 use Rattle.format.proofs.Forms.{form-fixed, form-container, form-reference}
-use Rattle.symbols.specs.Entry.{nameIn}
+use Rattle.symbols.specs.Entry.{kindIn, nameIn}
 use Rattle.symbols.specs.Entries.{foundIn}
 use Rattle.symbols.proofs.Entries.{entry-none, entry-is}
 use Rattle.wire.specs.Numbers.{numberOf}
 use Rattle.wire.proofs.CodeLaws.{code-within, form-number}
 use Rattle.items.specs.declared.item.Out.the-variants as out
 use Rattle.items.specs.Judging.{Goes, Judged, Case, spot}
-use Rattle.items.proofs.Ladder.{later, to-later, missing, by-row, not-key, is-key, not-container, is-container}
+use Rattle.items.proofs.Ladder.{later, to-later, missing, by-row, not-key, not-container, is-container}
 
 -- ---- the place after an item
 
@@ -155,9 +156,13 @@ module _ {s es : List ℕ} {at names keyed next : ℕ} {h : Header} {o : Options
     found : Found
     found = foundIn s e
 
-    kind-is : found .item .kind ≡ 10 + e % 2
+    kind-is : found .item .kind ≡ kindIn e
     unfolding found foundIn nameIn
     kind-is = refl
+
+    key-is : isKey (found .item) ≡ eqb (kindIn e) Kind.key
+    unfolding isKey
+    key-is = rw kind-is
 
     meant : itemOf reference (h .payload) (a .at + h .size) (drop (h .size) bs) (a .entries) ≡ some found
     unfolding itemOf found
@@ -166,15 +171,15 @@ module _ {s es : List ℕ} {at names keyed next : ℕ} {h : Header} {o : Options
     no-box : isContainer (found .item) ≡ false
     no-box = not-container (found .item) (λ q. omega (arith, kind-is))
 
-    pub reference-value : e % 2 ≡ 0 → Judged o s es names a (headed o a (some h) bs) (out.Value next)
+    pub reference-value : eqb (kindIn e) Kind.key ≡ false → Judged o s es names a (headed o a (some h) bs) (out.Value next)
     unfolding isContent
     reference-value z =
-        let key : isKey (found .item) ≡ false = not-key (found .item) (λ q. omega (arith, kind-is)) in
+        let key : isKey (found .item) ≡ false = key-is ∙ z in
         flat-goes bs cs _ (form-reference h (omega arith)) refl found meant (and-no-right _ key) (and-no-left _ no-box) 0 _ (moved-value (a .place) (found .item) key (and-no-left _ no-box)) (ended-keyed _ _)
 
-    module _ (z : e % 2 ≢ 0) where
+    module _ (z : eqb (kindIn e) Kind.key ≡ true) where
       a-key : isKey (found .item) ≡ true
-      a-key = is-key (found .item) (kind-is ∙ (let q : 10 + e % 2 ≡ 11 = omega (arith, z) in q))
+      a-key = key-is ∙ z
 
       pub reference-again : keyed ≡ 1 → Judged o s es names a (headed o a (some h) bs) (out.Bad UnexpectedKey)
       unfolding isContent

@@ -14,10 +14,10 @@ use Rattle.format.specs.Names.{index, isSome}
 use Rattle.format.specs.Reading.{Found, itemsOf}
 use Rattle.format.proofs.Tests.{clash}
 use Rattle.format.proofs.Names.{item-path}
-use Rattle.symbols.specs.Entry.{plainEntry, nameIn, namesIn, name, Part}
+use Rattle.symbols.specs.Entry.{plainEntry, Packed, nameIn, namesIn, name, Part}
 use Rattle.symbols.specs.Entries.{foundIn, entriesOf, partOf}
 use Rattle.symbols.specs.Noting as noting
-use Rattle.symbols.proofs.EntryLaws.{Packed, packed-plain, side-both}
+use Rattle.symbols.proofs.EntryLaws.{packed-plain, side-both}
 use Rattle.symbols.proofs.Entries.{entries-more, found-packed}
 use Rattle.items.specs.declared.item.Out.{Out}
 use Rattle.items.specs.declared.item.Out.the-variants as out

@@ -15,6 +15,7 @@ use format::Error;
 use format::FieldCount;
 use format::Header;
 use format::SymbolTable;
+use symbols::entry::is_key;
 use symbols::entry::key_of;
 use symbols::entry::plain_entry;
 use symbols::lookup::Links;
@@ -99,8 +100,7 @@ fn reference(
         return Out::Bad(Error::UndefinedReference);
     }
     let i = p as usize;
-    let e = entries[i];
-    if e % 2 == 0 {
+    if !is_key(entries[i]) {
         return Out::Value(next);
     }
     if keyed == 1 {

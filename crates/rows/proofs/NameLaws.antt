@@ -65,8 +65,8 @@ module _ (text : List ℕ) (r : Row) (lo : 10 ≤ r .kind) (fine : isBad text r 
     guessed-name : nameIn text text (getD es g 0) ≡ itemAt text r
     unfolding nameIn partIn itemAt
     guessed-name =
-        item-path (p .kind-is) (p .length-is)
-        (rw (p .length-is, p .start-is, side-both _ text) (content-part text r fine has-content))
+        item-path (p .there .kind-is) (p .there .length-is)
+        (rw (p .there .length-is, p .there .start-is, side-both _ text) (content-part text r fine has-content))
 
     pub guessed : index (itemAt text r) (namesIn text text (take count es)) ≡ some g
     guessed =

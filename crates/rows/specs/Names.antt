@@ -8,16 +8,13 @@ use lib.ListN.{getD}
 use Rattle.format.specs.declared.row.Row.{Row}
 use Rattle.format.specs.Choice.{_&&_}
 use Rattle.format.specs.Writing.{isBad}
-use Rattle.symbols.specs.Entry.{kindIn, lengthIn, sideIn, startIn}
+use Rattle.symbols.specs.Entry.{Packed}
 use Rattle.rows.specs.declared.state.State.{State}
 
 -- An entry that stands for this part of the text: the same name, without looking at its bytes.
 pub record Placed (es : List ℕ) (count i kind start number : ℕ) : Type 0 where
   pub known : i < count
-  pub kind-is : kindIn (getD es i 0) ≡ kind
-  pub side-is : sideIn (getD es i 0) ≡ 0
-  pub start-is : startIn (getD es i 0) ≡ start
-  pub length-is : lengthIn (getD es i 0) ≡ number
+  pub there : Packed (getD es i 0) start 0 number kind
 
 -- A name that rules 9 and 5 let pass.
 pub record Naming (text : List ℕ) (s : State) (r : Row) : Type 0 where

@@ -22,6 +22,7 @@ use format::Bundle;
 use format::Error;
 use format::Row;
 use format::SymbolTable;
+use symbols::entry::is_part;
 use symbols::entry::key_of;
 use symbols::lookup::Links;
 use symbols::lookup::Noted;
@@ -68,11 +69,7 @@ fn is_entry(
     if names <= i {
         return false;
     }
-    let e = entries[i];
-    if e / 281474976710656 != start as u64 * 2 {
-        return false;
-    }
-    e % 65536 == number * 2 + (kind as u64 - 10)
+    is_part(entries[i], kind, start, number)
 }
 
 // A name that has an entry.

@@ -10,12 +10,14 @@ use native.Mathlib.Omega.{arith}
 use lib.ListN.{length, take, getD, set, replicate, length-set, length-replicate, getD-replicate, length-map}
 use lib.Seq.{getD-take, length-take-le, getD-set-same, getD-set-other}
 use Rattle.format.specs.Item.{Item}
+use Rattle.format.specs.Kind as Kind
+use Rattle.format.specs.Limits.{max-entries}
 use Rattle.format.specs.Names.{sameName, indexFrom, index}
 use Rattle.format.proofs.Tests.{cases, clash, equal, order, eqb-true, and-true, pick-yes, pick-no, none-some}
 use Rattle.format.proofs.Names.{same-true, index-at}
 use Rattle.format.proofs.Encoding.{at-lt}
-use Rattle.symbols.specs.Entry.{keyOf, keyIn, name, nameIn, namesIn, Sound}
-use Rattle.symbols.specs.Chains.{foundOf, Table, bucket, Chained}
+use Rattle.symbols.specs.Entry.{keyOf, keyIn, buckets, bucket, name, nameIn, namesIn, Sound}
+use Rattle.symbols.specs.Chains.{foundOf, Table, links-size, Chained}
 use Rattle.symbols.specs.declared.lookup.Lookup.the-variants.{At, Nothing}
 use Rattle.symbols.proofs.EntryLaws.{other-key}
 
@@ -108,8 +110,8 @@ pub record Along (a b es : List ℕ) (count kind key : ℕ) (content : List ℕ)
   pub none-from : (j : ℕ) → j < count → v ≤ j → sameName (name kind content) (nameIn a b (getD es j 0)) ≡ false
   pub here : 0 < v → bucket (getD es (v - 1) 0) ≡ bucket key
 
-module _ {a b es links : List ℕ} {count kind key : ℕ} (content : List ℕ) (c : Chained a b es links count) (ek : key ≡ keyOf kind content) (lo : 10 ≤ kind)
-    (hi : kind ≤ 11) where
+module _ {a b es links : List ℕ} {count kind key : ℕ} (content : List ℕ) (c : Chained a b es links count) (ek : key ≡ keyOf kind content) (lo : Kind.symbol ≤ kind)
+    (hi : kind ≤ Kind.key) where
   abbrev x : Item
   x = name kind content
 
@@ -133,24 +135,24 @@ module _ {a b es links : List ℕ} {count kind key : ℕ} (content : List ℕ) (
     lt : v - 1 < count
     lt = omega (arith, w .within)
 
-    pub along-next : sameName x (nameIn a b (getD es (v - 1) 0)) ≡ false → Along a b es count kind key content (getD links (512 + (v - 1)) 0)
+    pub along-next : sameName x (nameIn a b (getD es (v - 1) 0)) ≡ false → Along a b es count kind key content (getD links (buckets + (v - 1)) 0)
     along-next h =
         record {
           within = omega (arith, c .next-le (v - 1) lt, w .within);
           none-from = λ j l le. equal j (v - 1) (λ (q : j ≡ v - 1). rw q h)
               (λ q. cases (sameName x (nameIn a b (getD es j 0))) (λ t. clash t (past j l le q t)) (λ f. f));
-          here = λ p. c .next-in (v - 1) (getD links (512 + (v - 1)) 0 - 1) lt (omega arith) ∙ w .here pos;
+          here = λ p. c .next-in (v - 1) (getD links (buckets + (v - 1)) 0 - 1) lt (omega arith) ∙ w .here pos;
         }
       where
-        past : (j : ℕ) → j < count → getD links (512 + (v - 1)) 0 ≤ j → j ≢ v - 1 → sameName x (nameIn a b (getD es j 0)) ≡ true
+        past : (j : ℕ) → j < count → getD links (buckets + (v - 1)) 0 ≤ j → j ≢ v - 1 → sameName x (nameIn a b (getD es j 0)) ≡ true
             → sameName x (nameIn a b (getD es j 0)) ≡ false
         past j l le q t =
             order v j (λ (g : v ≤ j). w .none-from j l g)
             (λ (g : j < v).
-            let p : j < getD links (512 + (v - 1)) 0 = c .next-past (v - 1) j lt (omega arith) (same-bucket j l t ∙ sym (w .here pos)) in
+            let p : j < getD links (buckets + (v - 1)) 0 = c .next-past (v - 1) j lt (omega arith) (same-bucket j l t ∙ sym (w .here pos)) in
             absurd (omega arith))
 
-    pub along-less : getD links (512 + (v - 1)) 0 < v
+    pub along-less : getD links (buckets + (v - 1)) 0 < v
     along-less = omega (arith, c .next-le (v - 1) lt)
 
     pub along-hit : sameName x (nameIn a b (getD es (v - 1) 0)) ≡ true → index x (namesIn a b (take count es)) ≡ some (v - 1)
@@ -163,11 +165,11 @@ module _ {a b es links : List ℕ} {count kind key : ℕ} (content : List ℕ) (
 
 -- ---- no entry
 
-pub chain-start : (a b es links : List ℕ) → length es ≡ 256 → links ≡ replicate 768 0 → Chained a b es links 0
+pub chain-start : (a b es links : List ℕ) → length es ≡ max-entries → links ≡ replicate links-size 0 → Chained a b es links 0
 chain-start a b es links e z =
     record {
       table = record { size = e; few = omega arith; sound = λ i h. absurd (omega arith) };
-      size = rw z (length-replicate {A = ℕ} 768 0);
+      size = rw z (length-replicate {A = ℕ} links-size 0);
       head-le = λ k l. omega (arith, zeros k l);
       head-in = λ k v l h. absurd (omega (arith, zeros k l));
       head-past = λ j h. absurd (omega arith);
@@ -177,12 +179,12 @@ chain-start a b es links e z =
       unlike = λ i j h. absurd (omega arith);
     }
   where
-    zeros : (k : ℕ) → k < 512 → getD links k 0 ≡ 0
-    zeros k l = rw z (getD-replicate 768 k 0 0 (omega arith))
+    zeros : (k : ℕ) → k < buckets → getD links k 0 ≡ 0
+    zeros k l = rw z (getD-replicate links-size k 0 0 (omega arith))
 
 -- ---- one more entry
 
-module _ {a b es links : List ℕ} {count e : ℕ} (c : Chained a b es links count) (lt : count < 256) (ok : Sound a b e)
+module _ {a b es links : List ℕ} {count e : ℕ} (c : Chained a b es links count) (lt : count < max-entries) (ok : Sound a b e)
     (new : index (nameIn a b e) (namesIn a b (take count es)) ≡ none) where
   old : (j : ℕ) → j < count → getD (set es count e) j 0 ≡ getD es j 0
   old j l = getD-set-other es count j e 0 (λ q. omega arith)
@@ -200,17 +202,17 @@ module _ {a b es links : List ℕ} {count e : ℕ} (c : Chained a b es links cou
       }
 
   abbrev links₁ : List ℕ
-  links₁ = set links (512 + count) (getD links (bucket e) 0)
+  links₁ = set links (buckets + count) (getD links (bucket e) 0)
 
   abbrev links₂ : List ℕ
-  links₂ = set (set links (512 + count) (getD links (bucket e) 0)) (bucket e) (count + 1)
+  links₂ = set (set links (buckets + count) (getD links (bucket e) 0)) (bucket e) (count + 1)
 
   -- the heads
   head-new : getD links₂ (bucket e) 0 ≡ count + 1
-  head-new = getD-set-same links₁ (bucket e) (count + 1) 0 (omega (arith, c .size, length-set links (512 + count) (getD links (bucket e) 0)))
+  head-new = getD-set-same links₁ (bucket e) (count + 1) 0 (omega (arith, c .size, length-set links (buckets + count) (getD links (bucket e) 0)))
 
-  head-old : (k : ℕ) → k < 512 → k ≢ bucket e → getD links₂ k 0 ≡ getD links k 0
-  head-old k l n = getD-set-other links₁ (bucket e) k (count + 1) 0 n ∙ getD-set-other links (512 + count) k (getD links (bucket e) 0) 0 (λ q. omega arith)
+  head-old : (k : ℕ) → k < buckets → k ≢ bucket e → getD links₂ k 0 ≡ getD links k 0
+  head-old k l n = getD-set-other links₁ (bucket e) k (count + 1) 0 n ∙ getD-set-other links (buckets + count) k (getD links (bucket e) 0) 0 (λ q. omega arith)
 
   head-past-old : (j : ℕ) → j < count → j < getD links₂ (bucket (getD es j 0)) 0
   head-past-old j m =
@@ -219,22 +221,22 @@ module _ {a b es links : List ℕ} {count e : ℕ} (c : Chained a b es links cou
       (λ n. rw (head-old (bucket (getD es j 0)) (omega arith) n) (c .head-past j m))
 
   -- the nexts
-  next-new : getD links₂ (512 + count) 0 ≡ getD links (bucket e) 0
+  next-new : getD links₂ (buckets + count) 0 ≡ getD links (bucket e) 0
   next-new =
-      getD-set-other links₁ (bucket e) (512 + count) (count + 1) 0 (λ q. omega arith)
-      ∙ getD-set-same links (512 + count) (getD links (bucket e) 0) 0 (omega (arith, c .size))
+      getD-set-other links₁ (bucket e) (buckets + count) (count + 1) 0 (λ q. omega arith)
+      ∙ getD-set-same links (buckets + count) (getD links (bucket e) 0) 0 (omega (arith, c .size))
 
-  next-old : (i : ℕ) → i < count → getD links₂ (512 + i) 0 ≡ getD links (512 + i) 0
+  next-old : (i : ℕ) → i < count → getD links₂ (buckets + i) 0 ≡ getD links (buckets + i) 0
   next-old i l =
-      getD-set-other links₁ (bucket e) (512 + i) (count + 1) 0 (λ q. omega arith)
-      ∙ getD-set-other links (512 + count) (512 + i) (getD links (bucket e) 0) 0 (λ q. omega arith)
+      getD-set-other links₁ (bucket e) (buckets + i) (count + 1) 0 (λ q. omega arith)
+      ∙ getD-set-other links (buckets + count) (buckets + i) (getD links (bucket e) 0) 0 (λ q. omega arith)
 
   -- what `enter` does
-  pub chain-more : Chained a b (set es count e) (set (set links (512 + count) (getD links (bucket e) 0)) (bucket e) (count + 1)) (count + 1)
+  pub chain-more : Chained a b (set es count e) (set (set links (buckets + count) (getD links (bucket e) 0)) (bucket e) (count + 1)) (count + 1)
   chain-more =
       record {
         table = table-more;
-        size = length-set links₁ (bucket e) (count + 1) ∙ length-set links (512 + count) (getD links (bucket e) 0) ∙ c .size;
+        size = length-set links₁ (bucket e) (count + 1) ∙ length-set links (buckets + count) (getD links (bucket e) 0) ∙ c .size;
         head-le = λ k l. equal k (bucket e)
             (λ (q : k ≡ bucket e). rw (q, head-new) (omega arith))
             (λ n. omega (arith, head-old k l n, c .head-le k l));
@@ -258,7 +260,7 @@ module _ {a b es links : List ℕ} {count e : ℕ} (c : Chained a b es links cou
             rw (q, last, old w (omega (arith, c .head-le (bucket e) (omega arith)))) (c .head-in (bucket e) w (omega arith) p))
             (λ n.
             let m : i < count = omega arith in
-            let p : getD links (512 + i) 0 ≡ w + 1 = sym (next-old i m) ∙ h in
+            let p : getD links (buckets + i) 0 ≡ w + 1 = sym (next-old i m) ∙ h in
             rw (old i m, old w (omega (arith, c .next-le i m))) (c .next-in i w m p));
         next-past = λ i j (l : i < count + 1) g h. equal i count
             (λ (q : i ≡ count).
@@ -280,6 +282,6 @@ module _ {a b es links : List ℕ} {count e : ℕ} (c : Chained a b es links cou
       }
 
 -- an index fits the table
-pub index-small : {a b es links : List ℕ} {count i : ℕ} (x : Item) → Chained a b es links count → index x (namesIn a b (take count es)) ≡ some i → i < 256
+pub index-small : {a b es links : List ℕ} {count i : ℕ} (x : Item) → Chained a b es links count → index x (namesIn a b (take count es)) ≡ some i → i < max-entries
 index-small {a} {b} {es} {links} {count} {i} x ch e =
     omega (arith, at-lt (namesIn a b (take count es)) i (index-at x (namesIn a b (take count es)) e .at), length-names (ch .table), ch .table .few)

@@ -9,9 +9,9 @@ use lib.ListN.{length, take, drop, getD, set, getElem?, length-map}
 use lib.Seq.{length-take-le, take-suc-set, getD-take}
 use Rattle.format.proofs.Lists.{map-append}
 use Rattle.format.proofs.Names.{item-path}
-use Rattle.symbols.specs.Entry.{nameIn, partIn, sideOf}
+use Rattle.symbols.specs.Entry.{Packed, nameIn, partIn, sideOf}
 use Rattle.symbols.specs.Entries.{foundIn, entriesOf, partOf}
-use Rattle.symbols.proofs.EntryLaws.{Packed, side-both}
+use Rattle.symbols.proofs.EntryLaws.{side-both}
 
 module _ (s es : List ℕ) (names : ℕ) (size : length es ≡ 256) (few : names ≤ 256) where
   long : length (take names es) ≡ names

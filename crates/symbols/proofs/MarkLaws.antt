@@ -9,7 +9,7 @@ use lib.Seq.{take-length, drop-drop}
 use Rattle.format.specs.Choice.{pick}
 use Rattle.format.specs.Header.{bigEndian}
 use Rattle.format.proofs.Tests.{pick-yes, pick-no, leb-yes, leb-no}
-use Rattle.symbols.specs.Mark.{mixed, wordAt, fewOf, markEnd, markFrom, markOf}
+use Rattle.symbols.specs.Mark.{marks, mixed, wordAt, fewOf, markEnd, markFrom, markOf}
 
 -- The mark of the bytes from i on, begun with h.
 abbrev pub markAt : List ℕ → ℕ → ℕ → ℕ
@@ -63,24 +63,24 @@ end-none h (b ∷ bs) l = absurd (omega arith)
 
 -- ---- bounds
 
-pub mixed-lt : (h v w : ℕ) → mixed h v w < 4294967296
+pub mixed-lt : (h v w : ℕ) → mixed h v w < marks
 unfolding mixed
 mixed-lt h v w = omega arith
 
-picked-lt : (b : Bool) (x y : ℕ) → x < 4294967296 → y < 4294967296 → pick b x y < 4294967296
+picked-lt : (b : Bool) (x y : ℕ) → x < marks → y < marks → pick b x y < marks
 unfolding pick
 picked-lt true x y p q = p
 picked-lt false x y p q = q
 
-end-lt : (h : ℕ) (s : List ℕ) → markEnd h s < 4294967296
+end-lt : (h : ℕ) (s : List ℕ) → markEnd h s < marks
 unfolding markEnd
 end-lt h s = picked-lt _ _ _ (mixed-lt _ _ _) (picked-lt _ _ _ (mixed-lt _ _ _) (mixed-lt _ _ _))
 
-from-lt : (n h : ℕ) (s : List ℕ) → markFrom n h s < 4294967296
+from-lt : (n h : ℕ) (s : List ℕ) → markFrom n h s < marks
 unfolding markFrom
 from-lt zero h s = end-lt h s
 from-lt (suc n) h s = from-lt n (mixed h (wordAt s 0) (wordAt s 4)) (drop 8 s)
 
-pub mark-lt : (s : List ℕ) → markOf s < 4294967296
+pub mark-lt : (s : List ℕ) → markOf s < marks
 unfolding markOf
 mark-lt s = from-lt ((length s - 9) / 8) 0 s

@@ -1,14 +1,18 @@
 -- The mark of bytes. Any function of the bytes would do: all that is asked of it is that equal names have equal marks.
-use Prim.Native.Nat.{ℕ, zero, suc, _+_, _-_, _*_, _/_, _%_}
+use Prim.Native.Nat.{ℕ, zero, suc, _+_, _-_, _*_, _/_, _%_, _^_}
 use mathlib.Core.List.{List}
 use lib.Dec.{leb}
 use lib.ListN.{length, take, drop, getD}
 use Rattle.format.specs.Choice.{pick}
 use Rattle.format.specs.Header.{bigEndian}
 
+-- Marks are below this.
+abbrev pub marks : ℕ
+marks = 2 ^ 32
+
 -- Two products, so that one need not wait for the other.
 unfoldable pub mixed : ℕ → ℕ → ℕ → ℕ
-mixed h v w = ((h + v % 4294967296) % 4294967296 * 2654435761 + w % 4294967296 * 1540483477) % 4294967296
+mixed h v w = ((h + v % marks) % marks * 2654435761 + w % marks * 1540483477) % marks
 
 -- Four bytes as a number.
 abbrev pub wordAt : List ℕ → ℕ → ℕ

@@ -3,19 +3,25 @@ ghost use mathlib.Core.Path.{_≡_};
 ghost use mathlib.Core.Option.{none};
 ghost use Prim.Native.Nat.{_+_, _<_, _≤_};
 ghost use lib.ListN.{length, take, set};
+ghost use Rattle.format.specs.Kind as Kind;
+ghost use Rattle.format.specs.Limits.{max-bytes, max-entries};
 ghost use Rattle.format.specs.Names.{index};
 ghost use Rattle.symbols.specs.Entry.{keyOf, nameIn, namesIn, name, Part, Sound};
 ghost use Rattle.symbols.specs.Chains.{foundOf, Chained};
 ghost use Rattle.symbols.specs.Noting.{NotedAs};
+use crate::entry::Entry;
+use crate::entry::bucket;
+use crate::entry::is_name;
+use crate::entry::pack;
 use format::SymbolTable;
 
 // The links of the chains: a head for each bucket, then the next of each entry.
 pub struct Links;
 
 impl Links {
-    pub const HEADS: usize = 512;
+    pub const HEADS: usize = Entry::BUCKETS;
 
-    pub const SIZE: usize = 768;
+    pub const SIZE: usize = Links::HEADS + SymbolTable::MAX_ENTRIES;
 }
 
 pub enum Lookup {
@@ -34,14 +40,14 @@ pub fn find<'a>(
     key: u64,
     content: &[u8],
 ) -> Lookup
-    requires { ⌜ Chained (now first) (now second) (now entries) (now links) count × (key ≡ keyOf kind (now content)) × (10 ≤ kind) × (kind ≤ 11) × (length (now content) ≤ 16384) ⌝ }
+    requires { ⌜ Chained (now first) (now second) (now entries) (now links) count × (key ≡ keyOf kind (now content)) × (Kind.symbol ≤ kind) × (kind ≤ Kind.key) × (length (now content) ≤ max-bytes) ⌝ }
     ensures { λ r. ⌜ r ≡ foundOf (index (name kind (now (content .entry))) (namesIn (now (first .entry)) (now (second .entry)) (take count (now (entries .entry))))) ⌝ }
 {
-    let head = (key / 549755813888 % Links::HEADS as u64) as usize;
+    let head = bucket(key);
     let mut v = links[head];
     while 0 < v {
         let i = (v - 1) as usize;
-        if crate::entry::is_name(first, second, entries[i], kind, key, content) {
+        if is_name(first, second, entries[i], kind, key, content) {
             return Lookup::At(i);
         }
         v = links[Links::HEADS + i];
@@ -58,12 +64,12 @@ pub fn enter<'a>(
     count: usize,
     e: u64,
 )
-    requires { ⌜ Chained (now first) (now second) (now entries) (now links) count × (count < 256) × Sound (now first) (now second) e
+    requires { ⌜ Chained (now first) (now second) (now entries) (now links) count × (count < max-entries) × Sound (now first) (now second) e
         × (index (nameIn (now first) (now second) e) (namesIn (now first) (now second) (take count (now entries))) ≡ none) ⌝ }
     ensures stored { λ _. ⌜ now (entries .exit) ≡ set (now (entries .entry)) count e ⌝ }
     ensures chained { λ _. ⌜ Chained (now (first .entry)) (now (second .entry)) (now (entries .exit)) (now (links .exit)) (count + 1) ⌝ }
 {
-    let head = (e / 549755813888 % Links::HEADS as u64) as usize;
+    let head = bucket(e);
     entries[count] = e;
     links[Links::HEADS + count] = links[head];
     links[head] = (count + 1) as u16;
@@ -99,14 +105,7 @@ pub fn note<'a>(
             if SymbolTable::MAX_ENTRIES <= count {
                 return Noted::Full;
             }
-            enter(
-                first,
-                second,
-                entries,
-                links,
-                count,
-                (start as u64 * 2 + side) * 281474976710656 + key,
-            );
+            enter(first, second, entries, links, count, pack(side, start, key));
             Noted::Entered
         }
     }

@@ -2,20 +2,28 @@
 ghost use mathlib.Core.Path.{_≡_};
 ghost use Prim.Native.Nat.{_<_, _≤_};
 ghost use lib.ListN.{length};
-ghost use Rattle.symbols.specs.Mark.{mixed, markEnd, markOf};
+ghost use Rattle.symbols.specs.Mark.{marks, mixed, markEnd, markOf};
 use wire::header::number;
 
+// Marks are below this.
+pub struct Marks;
+
+impl Marks {
+    pub const COUNT: u64 = u32::MAX as u64 + 1;
+}
+
 fn mix(h: u64, v: u64, w: u64) -> u64
-    requires { ⌜ h < 4294967296 ⌝ }
-    ensures { λ r. ⌜ (r ≡ mixed h v w) × (r < 4294967296) ⌝ }
+    requires { ⌜ h < marks ⌝ }
+    ensures { λ r. ⌜ (r ≡ mixed h v w) × (r < marks) ⌝ }
 {
-    ((h + v % 4294967296) % 4294967296 * 2654435761 + w % 4294967296 * 1540483477) % 4294967296
+    ((h + v % Marks::COUNT) % Marks::COUNT * 2654435761 + w % Marks::COUNT * 1540483477)
+        % Marks::COUNT
 }
 
 // The last bytes. Two reads of a fixed width that meet or overlap take less than a loop.
 fn end(h: u64, s: &[u8]) -> u64
-    requires { ⌜ (h < 4294967296) × (length (now s) ≤ 16) ⌝ }
-    ensures { λ r. ⌜ (r ≡ markEnd h (now (s .entry))) × (r < 4294967296) ⌝ }
+    requires { ⌜ (h < marks) × (length (now s) ≤ 16) ⌝ }
+    ensures { λ r. ⌜ (r ≡ markEnd h (now (s .entry))) × (r < marks) ⌝ }
 {
     let n = s.len();
     if 8 <= n {
@@ -33,7 +41,7 @@ fn end(h: u64, s: &[u8]) -> u64
 }
 
 pub fn mark(s: &[u8]) -> u64
-    ensures { λ r. ⌜ (r ≡ markOf (now (s .entry))) × (r < 4294967296) ⌝ }
+    ensures { λ r. ⌜ (r ≡ markOf (now (s .entry))) × (r < marks) ⌝ }
 {
     let mut h: u64 = 0;
     let mut i = 0;

@@ -18,9 +18,9 @@ use Rattle.format.specs.Reading.{Found, Options, State, Form, content, fixed, r
 use Rattle.format.specs.Rows.{rowOf}
 use Rattle.format.proofs.Tests.{order, leb-yes, leb-no, none-some, some-inj}
 use Rattle.format.proofs.Turns.{Turn, turn, never-cut, form-read, turn-forward, turn-found, header-within, flat-ends, flat-kept, fixed-is, reference-is, content-is, content-inside, content-ends, content-kept, name-room, name-entry}
-use Rattle.symbols.specs.Entry.{plainEntry, kindIn, lengthIn, startIn, nameIn}
+use Rattle.symbols.specs.Entry.{Packed, plainEntry, rowIn, nameIn}
 use Rattle.symbols.specs.Entries.{foundIn, entriesOf, partOf}
-use Rattle.symbols.proofs.EntryLaws.{Packed, packed-plain}
+use Rattle.symbols.proofs.EntryLaws.{packed-plain}
 use Rattle.symbols.proofs.Entries.{length-entries, entry-none, entry-is, entries-more, found-packed}
 use Rattle.walk.specs.declared.Walked.{Walked}
 use Rattle.walk.specs.Walking.{Walks, Onward}
@@ -81,7 +81,7 @@ module _ {o : Options} {bs : List ℕ} {u s : State} {table : List ℕ} {w : Wal
     pub reference-small : h .payload < max-entries
     reference-small = omega (arith, before, p .few)
 
-    pub reference-on : {q : Row} → q ≡ row (kindIn (getD table (h .payload) 0)) (lengthIn (getD table (h .payload) 0)) (startIn (getD table (h .payload) 0))
+    pub reference-on : {q : Row} → q ≡ rowIn (getD table (h .payload) 0)
         → {r : Walked} → r ≡ record { at = w .at + h .size; entries = w .entries; row = q } → Onward o bs u s table w r
     unfolding isContent rowOf foundIn nameIn
     reference-on eq is = flat-on ef refl (eq ∙ ap rowOf (some-inj (sym (entry-is bs table (w .entries) (p .size) (p .few) (h .payload) before) ∙ at-entry))) is

@@ -7,13 +7,14 @@ ghost use lib.ListN.{drop, getD, set};
 ghost use Rattle.format.specs.Limits.{max-bytes, max-entries};
 ghost use Rattle.format.specs.Kind as Kind;
 ghost use Rattle.format.specs.Header.{headerOf};
-ghost use Rattle.symbols.specs.Entry.{plainEntry, kindIn, lengthIn, startIn};
+ghost use Rattle.symbols.specs.Entry.{plainEntry, rowIn};
 ghost use Rattle.walk.specs.Walking.{begin, Left, Nexts};
 use format::ByteLength;
 use format::FieldCount;
 use format::Header;
 use format::Row;
 use format::SymbolTable;
+use symbols::entry;
 use symbols::entry::plain_entry;
 use wire::codes::is_integer;
 use wire::codes::number_of;
@@ -85,15 +86,10 @@ fn name(
 // The row of the entry that a reference stands for.
 fn referred(table: &[u64; SymbolTable::MAX_ENTRIES], index: u64) -> Row
     requires { ⌜ index < max-entries ⌝ }
-    ensures { λ r. ⌜ r ≡ record { kind = kindIn (getD (now (table .entry)) index 0); number = lengthIn (getD (now (table .entry)) index 0); start = startIn (getD (now (table .entry)) index 0) } ⌝ }
+    ensures { λ r. ⌜ r ≡ rowIn (getD (now (table .entry)) index 0) ⌝ }
 {
     let i = index as usize;
-    let e = table[i];
-    Row::new(
-        (10 + e % 2) as u8,
-        e % 65536 / 2,
-        (e / 562949953421312) as usize,
-    )
+    entry::row(table[i])
 }
 
 // The item of a header.

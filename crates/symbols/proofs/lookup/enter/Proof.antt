@@ -5,8 +5,8 @@ use borrow.Author.Needs.{needs}
 use Rattle.symbols.proofs.lookup.enter.Statement.{statement}
 use Rattle.symbols.proofs.lookup.enter.Tie as tie
 
-rem-head : tie.Need-rem-head
-rem-head c = search needs
+bucket-requires : tie.Need-bucket-requires
+bucket-requires c κs = search needs
 
 mul-entries : tie.Need-mul-entries
 mul-entries c = search needs
@@ -42,13 +42,13 @@ element-write-links-2 : tie.Need-element-write-links-2
 element-write-links-2 c = search needs
 
 returns : tie.Need-returns
-returns c = let p = c .before .pre in (refl, chain-more (p .0) (p .1) (p .2) (p .3))
+returns c = let p = c .before .before .before .before .pre in (refl, rw (c .before .bucket .ensures) (chain-more (p .0) (p .1) (p .2) (p .3)))
 
 pub enter-spec : {M : Type 1} → statement M
 enter-spec =
     tie.close
     (tie.spec
-    rem-head
+    bucket-requires
     mul-entries
     element-write-entries
     mul-links

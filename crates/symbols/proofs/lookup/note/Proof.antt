@@ -19,28 +19,19 @@ enum-told c = search needs
 returns : tie.Need-returns
 returns c = (found-nothing _ (rw (c .before .enum-told .given .1) at (c .before .before .before .find .ensures)), c .if1 .taken)
 
-mul-enter : tie.Need-mul-enter
-mul-enter c = search needs
-
-add-enter : tie.Need-add-enter
-add-enter c = search needs
-
-mul-enter-2 : tie.Need-mul-enter-2
-mul-enter-2 c = search needs
-
-add-enter-2 : tie.Need-add-enter-2
-add-enter-2 c =
+pack-requires : tie.Need-pack-requires
+pack-requires c κs =
     let s = c .before .before .before .before .before .before .before .before .before .before .before in
     let p = s .pre .1 in
-    omega (arith, p .near, p .sides, s .pre .2, key-lt (s .args .kind) (s .args .content .now) (p .high) (p .short))
+    (p .sides, p .near, omega (arith, s .pre .2, key-lt (s .args .kind) (s .args .content .now) (p .high) (p .short)))
 
 enter-requires : tie.Need-enter-requires
-enter-requires c κs = let p = c .before .before .before .before .before .before .before .before .before .before .before .pre .1 in
-    let k = c .before .before .before .before .before .before .before .before .before .before .before .pre .2 in (
-      c .before .before .before .before .before .before .before .before .before .before .before .pre .0,
-      c .before .before .if1 .left,
-      packed-sound _ _ _ _ _ _ _ k (p .low) (p .high) (p .short) (p .sides) (p .inside) (p .is),
-      rw (packed-name _ _ _ _ _ _ _ k (p .low) (p .high) (p .short) (p .sides) (p .inside) (p .is)) (found-nothing _ (rw (c .before .before .before .enum-told .given .1) at (c .before .before .before .before .before .find .ensures))),
+enter-requires c κs = let p = c .before .before .before .before .before .before .before .before .before .before .before .before .pre .1 in
+    let k = c .before .before .before .before .before .before .before .before .before .before .before .before .pre .2 in (
+      c .before .before .before .before .before .before .before .before .before .before .before .before .pre .0,
+      c .before .before .before .if1 .left,
+      rw (c .pack .ensures) (packed-sound _ _ _ _ _ _ _ k (p .low) (p .high) (p .short) (p .sides) (p .inside) (p .is)),
+      rw (c .pack .ensures, packed-name _ _ _ _ _ _ _ k (p .low) (p .high) (p .short) (p .sides) (p .inside) (p .is)) (found-nothing _ (rw (c .before .before .before .before .enum-told .given .1) at (c .before .before .before .before .before .before .find .ensures))),
     )
 
 returns-2 : tie.Need-returns-2
@@ -51,15 +42,16 @@ returns-2 c =
     (i, index-small _ (s .pre .0) (found-some _ (rw (c .before .i .given .1) at (find′ .ensures))), refl, refl)
 
 returns-3 : tie.Need-returns-3
-returns-3 c = let p = c .before .before .before .before .before .before .before .before .before .before .before .before .pre .1 in
-    let k = c .before .before .before .before .before .before .before .before .before .before .before .before .pre .2 in
+returns-3 c = let p = c .before .before .before .before .before .before .before .before .before .before .before .before .before .pre .1 in
+    let k = c .before .before .before .before .before .before .before .before .before .before .before .before .before .pre .2 in
+    let e = c .before .pack .ensures in
     record {
-      new = found-nothing _ (rw (c .before .before .before .before .enum-told .given .1) at (c .before .before .before .before .before .before .find .ensures));
-      room = c .before .before .before .if1 .left;
+      new = found-nothing _ (rw (c .before .before .before .before .before .enum-told .given .1) at (c .before .before .before .before .before .before .before .find .ensures));
+      room = c .before .before .before .before .if1 .left;
       entry = _;
       stored = c .enter .ensures .0;
-      named = packed-name _ _ _ _ _ _ _ k (p .low) (p .high) (p .short) (p .sides) (p .inside) (p .is);
-      begins = packed-marked _ _ _ _ _ k (p .sides) (p .short) (p .low) (p .high) .start-is;
+      named = rw (e, packed-name _ _ _ _ _ _ _ k (p .low) (p .high) (p .short) (p .sides) (p .inside) (p .is));
+      begins = rw e (packed-marked _ _ _ _ _ k (p .sides) (p .short) (p .low) (p .high) .start-is);
       chained = c .enter .ensures .1;
     }
 
@@ -71,10 +63,7 @@ note-spec =
     enum-known-i
     enum-told
     returns
-    mul-enter
-    add-enter
-    mul-enter-2
-    add-enter-2
+    pack-requires
     enter-requires
     returns-2
     returns-3)

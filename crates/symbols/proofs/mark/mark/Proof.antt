@@ -3,13 +3,13 @@ use mathlib.Core.Path.{_≡_, ap, sym, _∙_}
 use Prim.Native.Nat.{_-_, _≤_, _<_}
 use native.Mathlib.Omega.{arith}
 use lib.ListN.{length, length-drop}
-use Rattle.symbols.specs.Mark.{markOf}
+use Rattle.symbols.specs.Mark.{marks, markOf}
 use Rattle.symbols.proofs.MarkLaws.{markAt, mark-start, mark-eight, rest-is, mark-rest}
 use Rattle.symbols.proofs.mark.mark.Statement.{statement}
 use Rattle.symbols.proofs.mark.mark.Tie as tie
 
 abbrev Inv-loop : tie.InvT-loop
-Inv-loop s h₀ i₀ h i = (i ≤ length s) × (h < 4294967296) × (markOf s ≡ markAt s i h)
+Inv-loop s h₀ i₀ h i = (i ≤ length s) × (h < marks) × (markOf s ≡ markAt s i h)
 
 abbrev μ-loop : tie.MeasureT-loop
 μ-loop s h₀ i₀ h i = length s - i
