@@ -25,14 +25,11 @@ use Rattle.format.proofs.Names.{item-path}
 use Rattle.symbols.specs.Entry.{name}
 use Rattle.wire.specs.Numbers.{numberOf}
 use Rattle.wire.proofs.OutputLaws.{header-short}
-use Rattle.wire.proofs.CodeLaws.{code-within, form-number}
+use Rattle.wire.proofs.CodeLaws.{form-number}
 use Rattle.encoder.proofs.Lengths.{length-fixed}
 use Rattle.rewriter.specs.Items.{sized}
 
 -- ---- codes
-
-pub number-code : (c : ℕ) → leb 1 c && leb c 3 ≡ true → (1 ≤ c) × (c ≤ 3)
-number-code = code-within 1 3
 
 pub fixed-code : (c z : ℕ) → eqb c 0 && ltb z 5 ≡ true → (c ≡ 0) × (z < 5)
 fixed-code c z e = let (l, u) = and-true (eqb c 0) (ltb z 5) e in (eqb-true c 0 l, leb-true (suc z) 5 u)

@@ -7,6 +7,8 @@ use lib.Dec.{leb, ltb, eqb}
 use lib.ListN.{length, take, drop}
 use Rattle.format.specs.Choice.{pick, _&&_}
 use Rattle.format.specs.declared.header.Header.{Header}
+use Rattle.format.specs.Code as Code
+use Rattle.format.specs.Limits.{fixed-sizes}
 use Rattle.format.specs.Header.{header}
 use Rattle.format.specs.Reading.{formOf, isContent}
 use Rattle.format.specs.Canonical.{full}
@@ -20,10 +22,10 @@ sized s next h = header (h .code) (h .payload) ++ take (h .payload) (drop next s
 -- An item as it is written, where refer is how a name is written.
 unfoldable pub rewritten : List ℕ → ℕ → ℕ → Header → List ℕ
 rewritten s refer next h =
-    pick (leb 1 (h .code) && leb (h .code) 3) (header (h .code) (numberOf (h .code) (h .payload)))
-    (pick (leb 7 (h .code)) (header 7 refer)
-    (pick (eqb (h .code) 0 && ltb (h .sz) 5) (full (record { kind = h .sz; number = h .payload; content = [] }))
-    (pick (leb 5 (h .code)) (referring refer (sized s next h)) (sized s next h))))
+    pick (leb Code.positive (h .code) && leb (h .code) Code.container) (header (h .code) (numberOf (h .code) (h .payload)))
+    (pick (leb Code.reference (h .code)) (header Code.reference refer)
+    (pick (eqb (h .code) Code.binary && ltb (h .sz) fixed-sizes) (full (record { kind = h .sz; number = h .payload; content = [] }))
+    (pick (leb Code.symbol (h .code)) (referring refer (sized s next h)) (sized s next h))))
 
 -- The bytes of content after a header.
 abbrev pub contentLength : Header → ℕ
