@@ -1,10 +1,10 @@
 -- Items measured: one more. Assumes nothing.
 use mathlib.Core.Path.{_≡_, refl, ap, sym, _∙_}
-use mathlib.Core.Logic.{_⊎_, ⊎-elim}
+use mathlib.Core.Logic.{⊎-elim}
 use mathlib.Core.Bool.{true, false}
 use mathlib.Core.List.{List, [], _∷_, _++_, map, append-nil}
 use mathlib.Core.Option.{Option, none, some}
-use Prim.Native.Nat.{ℕ, _+_, _-_, _≤_, _<_, zero-le}
+use Prim.Native.Nat.{ℕ, _+_, _≤_, _<_, zero-le}
 use native.Mathlib.Numerals.{add-one}
 use native.Mathlib.Omega.{arith}
 use lib.ListN.{length, take, getD, set, getElem?, replicate, length-set, length-append, length-replicate}
@@ -13,11 +13,12 @@ use Rattle.format.specs.Header.{header}
 use Rattle.format.specs.Item.{Item, isName}
 use Rattle.format.specs.Names.{sameName, index, noted, namesFrom}
 use Rattle.format.specs.Utf8.{utf8}
-use Rattle.format.specs.Canonical.{full, named, encoded, canonical, canonicalFrom}
-use Rattle.format.proofs.Tests.{cases, clash, and-true, none-some, pick-yes, pick-no}
+use Rattle.format.specs.Canonical.{full, encoded, canonical, canonicalFrom}
+use Rattle.format.proofs.Tests.{clash, and-true, none-some}
 use Rattle.format.proofs.Lists.{map-append}
 use Rattle.format.proofs.Names.{names-append, canonical-append, noted-plain, noted-known, noted-fresh, index-at, at-snoc, same-true}
 use Rattle.format.proofs.Encoding.{at-lt}
+use Rattle.format.proofs.Strict.{encoded-plain, encoded-known, encoded-fresh}
 use Rattle.symbols.specs.Entry.{nameIn, namesIn}
 use Rattle.symbols.specs.Chains.{Chained}
 use Rattle.symbols.proofs.ChainLaws.{chain-start}
@@ -49,20 +50,7 @@ module _ (xs : List Item) (x : Item) where
             (at-snoc xs x j e);
       }
 
--- ---- an item after the names es
-
-module _ (es : List Item) (x : Item) where
-  encoded-plain : isName x ≡ false → encoded es x ≡ full x
-  unfolding encoded
-  encoded-plain p = pick-no _ _ p
-
-  encoded-known : (i : ℕ) → isName x ≡ true → index x es ≡ some i → encoded es x ≡ header 7 i
-  unfolding encoded named
-  encoded-known i p q = pick-yes _ _ p ∙ rw q
-
-  encoded-fresh : index x es ≡ none → encoded es x ≡ full x
-  unfolding encoded named
-  encoded-fresh q = cases (isName x) (λ p. pick-yes _ _ p ∙ rw q) (λ p. pick-no _ _ p)
+-- ---- references
 
 refer-some : (o : Option ℕ) (i : ℕ) → o ≡ some i → referTo o ≡ i
 unfolding referTo
@@ -119,7 +107,7 @@ module _ {slots : ℕ} {a b es links plan : List ℕ} {xs : List Item} {count si
         table = m .table;
         names = m .names ∙ sym same-names;
         texts = λ j y h. m .texts j y (rw same-names at h);
-        length-is = length-more xs x size n (m .length-is) (e ∙ ap length (sym (encoded-known (namesFrom [] xs) x i p q)));
+        length-is = length-more xs x size n (m .length-is) (e ∙ ap length (sym (encoded-known (namesFrom [] xs) x p q)));
         plan-size = length-set plan (length xs) i ∙ m .plan-size;
         wide = m .wide;
         planned = planned-more xs x plan (set plan (length xs) i) (m .planned) lt (λ j l. getD-set-other plan (length xs) j i 0 (λ h. omega arith))

@@ -20,32 +20,25 @@ use Rattle.format.specs.Names.{index, isSome}
 use Rattle.format.specs.Place.{Place, keyAfterKey, tooDeep, moved}
 use Rattle.format.specs.Reading.{Options, State, Found, content, formOf, isContent, itemOf, itemsOf, after, headed}
 use Rattle.format.proofs.Tests.{cases, clash, equal, leb-yes, leb-no, ltb-yes, ltb-no, eqb-yes, eqb-no, and-no-left, and-no-right, and-yes, pick-yes, pick-no}
+use Rattle.format.proofs.Forms.{form-bytes, form-text}
+use Rattle.symbols.specs.Entries.{entriesOf, partOf}
+use Rattle.symbols.proofs.Entries.{length-entries}
 use Rattle.items.specs.declared.item.Out.{Out}
 use Rattle.items.specs.declared.item.Out.the-variants as out
-use Rattle.items.specs.Judging.{entriesOf, Fair, Stands, Moves, Goes, Judged, Case, Body, Name, partOf, isKnown, freshOf, Entered, known, full, entered, rowed}
+use Rattle.items.specs.Judging.{Fair, Stands, Moves, Goes, Judged, Case, Body, Name, isKnown, freshOf, Entered, known, full, entered, rowed}
 use Rattle.items.proofs.Ladder.{later, to-later, not-key, is-key, not-container, not-name, is-name}
-use Rattle.items.proofs.Entries.{length-entries}
 use Rattle.items.proofs.Flat.{ended-keyed, moved-key, moved-value}
 
 -- ---- forms
-
-pub form-bytes : (h : Header) → h .code ≡ 0 → 5 ≤ h .sz → formOf h ≡ content 5
-unfolding formOf pick
-form-bytes h e l = rw (e, ltb-no {a = h .sz} {b = 3} (omega arith), ltb-no {a = h .sz} {b = 5} l)
-
-pub form-coded : (h : Header) (c : ℕ) → h .code ≡ c → 4 ≤ c → c ≤ 6 → formOf h ≡ content (c + 5)
-unfolding formOf pick
-form-coded h c e l u =
-    rw (e, eqb-no {a = c} {b = 0} (omega arith), eqb-no {a = c} {b = 1} (omega arith), eqb-no {a = c} {b = 2} (omega arith), eqb-no {a = c} {b = 3} (omega arith), ltb-yes {a = c} {b = 7} (omega arith))
 
 pub body-bytes : (h : Header) → h .code ≡ 0 → 5 ≤ h .sz → Body h
 body-bytes h e l = record { kind = 5; form = form-bytes h e l; low = omega arith; plain = λ z. omega arith; text = rw e }
 
 pub body-string : (h : Header) → h .code ≡ 4 → Body h
-body-string h e = record { kind = 9; form = form-coded h 4 e (omega arith) (omega arith); low = omega arith; plain = λ z. omega arith; text = rw e }
+body-string h e = record { kind = 9; form = form-text h (omega arith) (omega arith) ∙ ap (λ (c : ℕ). content (c + 5)) e; low = omega arith; plain = λ z. omega arith; text = rw e }
 
 pub name-of : (h : Header) → 5 ≤ h .code → h .code ≤ 6 → Name h
-name-of h l u = record { form = form-coded h (h .code) refl (omega arith) u; high = l; last = u }
+name-of h l u = record { form = form-text h (omega arith) u; high = l; last = u }
 
 -- ---- the rules for content of kind k from next on
 

@@ -4,7 +4,7 @@ use mathlib.Core.Logic.{_≢_}
 use mathlib.Core.Bool.{true, false}
 use mathlib.Core.List.{List, [], _∷_}
 use mathlib.Core.Option.{some}
-use Prim.Native.Nat.{ℕ, _+_, _-_, _^_, _≤_, _<_, min}
+use Prim.Native.Nat.{ℕ, _+_, _-_, _≤_, _<_}
 use native.Mathlib.Omega.{arith}
 use lib.Dec.{leb, ltb, eqb}
 use lib.ListN.{length, drop, getD, length-append}
@@ -18,12 +18,16 @@ use Rattle.format.specs.Kind as Kind
 use Rattle.format.specs.Item.{Item, isKey, isContainer}
 use Rattle.format.specs.Place.{Place, keyAfterKey, tooDeep, ended, moved}
 use Rattle.format.specs.Reading.{Options, State, Found, Form, fixed, reference, formOf, isContent, itemOf, after, headed}
-use Rattle.format.proofs.Tests.{cases, order, equal, eqb-yes, eqb-no, leb-true, leb-yes, leb-no, ltb-yes, ltb-no, and-true, and-no-left, and-no-right, and-yes, pick-yes, pick-no}
+use Rattle.format.proofs.Tests.{cases, eqb-yes, eqb-no, leb-yes, leb-no, ltb-yes, ltb-no, and-no-left, and-no-right, and-yes, pick-yes, pick-no}
 use Rattle.symbols.specs.Entry.{kindIn, nameIn}
 use Rattle.items.specs.declared.item.Out.the-variants as out
-use Rattle.items.specs.Judging.{foundIn, Goes, Judged, Case, spot}
+use Rattle.items.specs.Judging.{Goes, Judged, Case, spot}
 use Rattle.items.proofs.Ladder.{later, to-later, missing, by-row, not-key, not-container, is-container}
-use Rattle.items.proofs.Entries.{entry-none, entry-is}
+use Rattle.format.proofs.Forms.{form-fixed, form-container, form-reference}
+use Rattle.symbols.specs.Entries.{foundIn}
+use Rattle.symbols.proofs.Entries.{entry-none, entry-is}
+use Rattle.wire.specs.Numbers.{numberOf}
+use Rattle.wire.proofs.CodeLaws.{code-within, form-number}
 
 -- ---- the place after an item
 
@@ -101,33 +105,14 @@ fixed-value {a = a} bs cs p =
     flat-goes bs cs _ (p .form) refl (bare (p .kind) (p .number)) refl (and-no-right _ key) (and-no-left _ box) 0 _ (moved-value (a .place) x key (and-no-left _ box)) (ended-keyed _ _)
 
 pub plain-small : (h : Header) → h .code ≡ 0 → h .sz < 5 → Plain h
-unfolding formOf pick
-plain-small h e l =
-    order 3 (h .sz)
-    (λ g. record { kind = h .sz; number = h .payload; form = rw (e, ltb-no {a = h .sz} {b = 3} g, ltb-yes {a = h .sz} {b = 5} l); small = omega arith })
-    (λ g. record { kind = h .sz; number = 0; form = rw (e, ltb-yes {a = h .sz} {b = 3} g); small = omega arith })
-
-plain-one : (h : Header) → h .code ≡ 1 → Plain h
-unfolding formOf pick
-plain-one h e = record { kind = 6; number = h .payload; form = rw e; small = omega arith }
-
-plain-two : (h : Header) → h .code ≡ 2 → Plain h
-unfolding formOf pick
-plain-two h e = record { kind = 7; number = min (h .payload) (2 ^ 64 - 2); form = rw e; small = omega arith }
-
-pub integer-code : (h : Header) → leb 1 (h .code) && leb (h .code) 2 ≡ true → (1 ≤ h .code) × (h .code ≤ 2)
-integer-code h e = let w = and-true (leb 1 (h .code)) (leb (h .code) 2) e in (leb-true 1 (h .code) (w .0), leb-true (h .code) 2 (w .1))
+plain-small h e l = record { kind = h .sz; number = pick (ltb (h .sz) 3) 0 (h .payload); form = form-fixed h e l; small = omega arith }
 
 pub plain-integer : (h : Header) → leb 1 (h .code) && leb (h .code) 2 ≡ true → Plain h
 plain-integer h e =
-    let w = integer-code h e in
-    equal (h .code) 1 (plain-one h) (λ n. plain-two h (omega (arith, n)))
+    let w = code-within 1 2 (h .code) e in
+    record { kind = h .code + 5; number = numberOf (h .code) (h .payload); form = form-number h (omega arith) (omega arith); small = omega arith }
 
 -- ---- containers
-
-form-container : (h : Header) → h .code ≡ 3 → formOf h ≡ fixed 8 (h .payload)
-unfolding formOf pick
-form-container h e = rw e
 
 module _ {s es : List ℕ} {at names keyed next : ℕ} {h : Header} {o : Options} {a : State} (bs : List ℕ) (cs : Case s es at names keyed next h o a) (code : h .code ≡ 3) where
   box : Item
@@ -161,15 +146,11 @@ module _ {s es : List ℕ} {at names keyed next : ℕ} {h : Header} {o : Options
 
 -- ---- references
 
-pub form-reference : (h : Header) → h .code ≡ 7 → formOf h ≡ reference
-unfolding formOf pick
-form-reference h e = rw e
-
 module _ {s es : List ℕ} {at names keyed next : ℕ} {h : Header} {o : Options} {a : State} (bs : List ℕ) (cs : Case s es at names keyed next h o a) (code : h .code ≡ 7)
     (size : length es ≡ 256) (few : names ≤ 256) where
   pub reference-missing : names ≤ h .payload → Judged o s es names a (headed o a (some h) bs) (out.Bad UndefinedReference)
   unfolding itemOf
-  reference-missing l = missing o a h bs reference (form-reference h code) (cs .short) (rw (cs .stands .entries) (entry-none s es names size few (h .payload) l))
+  reference-missing l = missing o a h bs reference (form-reference h (omega arith)) (cs .short) (rw (cs .stands .entries) (entry-none s es names size few (h .payload) l))
 
   module _ (l : h .payload < names) (e : ℕ) (ee : getD es (h .payload) 0 ≡ e) where
     found : Found
@@ -194,7 +175,7 @@ module _ {s es : List ℕ} {at names keyed next : ℕ} {h : Header} {o : Options
     unfolding isContent
     reference-value z =
         let key : isKey (found .item) ≡ false = key-is ∙ z in
-        flat-goes bs cs _ (form-reference h code) refl found meant (and-no-right _ key) (and-no-left _ no-box) 0 _ (moved-value (a .place) (found .item) key (and-no-left _ no-box)) (ended-keyed _ _)
+        flat-goes bs cs _ (form-reference h (omega arith)) refl found meant (and-no-right _ key) (and-no-left _ no-box) 0 _ (moved-value (a .place) (found .item) key (and-no-left _ no-box)) (ended-keyed _ _)
 
     module _ (z : eqb (kindIn e) Kind.key ≡ true) where
       a-key : isKey (found .item) ≡ true
@@ -202,9 +183,9 @@ module _ {s es : List ℕ} {at names keyed next : ℕ} {h : Header} {o : Options
 
       pub reference-again : keyed ≡ 1 → Judged o s es names a (headed o a (some h) bs) (out.Bad UnexpectedKey)
       unfolding isContent
-      reference-again k = flat-again bs cs _ (form-reference h code) refl found meant (and-yes (cs .stands .key ∙ eqb-yes k) a-key)
+      reference-again k = flat-again bs cs _ (form-reference h (omega arith)) refl found meant (and-yes (cs .stands .key ∙ eqb-yes k) a-key)
 
       pub reference-key : keyed ≢ 1 → Judged o s es names a (headed o a (some h) bs) (out.Key next)
       unfolding isContent
       reference-key k =
-          flat-goes bs cs _ (form-reference h code) refl found meant (and-no-left _ (cs .stands .key ∙ eqb-no k)) (and-no-left _ no-box) 1 _ (moved-key (a .place) (found .item) a-key) refl
+          flat-goes bs cs _ (form-reference h (omega arith)) refl found meant (and-no-left _ (cs .stands .key ∙ eqb-no k)) (and-no-left _ no-box) 1 _ (moved-key (a .place) (found .item) a-key) refl

@@ -3,9 +3,8 @@ use mathlib.Core.Path.{_≡_, refl, sym, subst}
 use mathlib.Core.Bool.{Bool, false}
 use mathlib.Core.List.{List}
 use mathlib.Core.Option.{some}
-use Prim.Native.Nat.{ℕ, zero, suc, _+_, _-_, _^_, _≤_, _<_}
+use Prim.Native.Nat.{ℕ, _+_, _-_, _^_, _≤_, _<_}
 use native.Mathlib.Omega.{arith}
-use lib.Dec.{leb}
 use lib.ListN.{length, drop, getD, length-drop}
 use Rattle.format.specs.declared.header.Header.{Header}
 use Rattle.format.specs.Choice.{_&&_, _||_}
@@ -14,7 +13,7 @@ use Rattle.format.specs.Limits.{max-inline}
 use Rattle.format.specs.Header.{following, headerOf, isLong, isNegativeAlias}
 use Rattle.format.specs.WellFormed.{Byte}
 use Rattle.format.specs.Reading.{Options, State, headed, item}
-use Rattle.format.proofs.Tests.{clash, eqb-no, leb-yes, ltb-no, and-yes, and-no-left, and-no-right, or-no}
+use Rattle.format.proofs.Tests.{eqb-no, ltb-no, and-no-left, and-no-right, or-no}
 use Rattle.format.proofs.Lists.{all-drop}
 use Rattle.format.proofs.Numbers.{bytes-of}
 use Rattle.format.proofs.Headers.{following-none, size-within, headed-of}
@@ -52,11 +51,6 @@ past-header st f = record { on = omega (arith, st .some); within = st .inside; f
 pub case : {strict : Bool} {s es : List ℕ} {at names keyed : ℕ} {h : Header} {o : Options} {a : State} → o .strict ≡ strict → strict && (isLong h || isNegativeAlias h) ≡ false → Stands s es at names keyed a
     → Case s es at names keyed (at + h .size) h o a
 case {h = h} so e st = record { short = subst (λ (b : Bool). b && (isLong h || isNegativeAlias h) ≡ false) (sym so) e; stands = st; size = refl }
-
--- What is no other code is 0.
-pub is-zero : (n : ℕ) → leb 1 n && leb n 2 ≡ false → n < 3 → n ≡ 0
-is-zero zero a l = refl
-is-zero (suc n) a l = clash (and-yes (leb-yes {a = 1} {b = suc n} (omega arith)) (leb-yes {a = suc n} {b = 2} (omega arith))) a
 
 pub judged-item : (s es : List ℕ) (names : ℕ) (o : Options) (a : State) {h : Header} (bs : List ℕ) (r : Out) → some h ≡ headerOf bs → Judged o s es names a (headed o a (some h) bs) r
     → Judged o s es names a (item o a bs) r

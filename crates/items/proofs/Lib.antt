@@ -1,6 +1,5 @@
 -- Laws for one item.
 pub mod Ladder
-pub mod Entries
 pub mod Flat
 pub mod Contents
 pub mod NameEntry

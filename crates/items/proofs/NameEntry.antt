@@ -14,20 +14,14 @@ use Rattle.format.specs.Names.{index, isSome}
 use Rattle.format.specs.Reading.{Found, itemsOf}
 use Rattle.format.proofs.Tests.{clash}
 use Rattle.format.proofs.Names.{item-path}
-use Rattle.symbols.specs.Entry.{plainEntry, Packed, partIn, nameIn, namesIn, name, Part, sideOf}
+use Rattle.symbols.specs.Entry.{plainEntry, Packed, nameIn, namesIn, name, Part}
 use Rattle.symbols.specs.Noting as noting
 use Rattle.symbols.proofs.EntryLaws.{packed-plain, side-both}
+use Rattle.symbols.specs.Entries.{foundIn, entriesOf, partOf}
+use Rattle.symbols.proofs.Entries.{entries-more, found-packed}
 use Rattle.items.specs.declared.item.Out.{Out}
 use Rattle.items.specs.declared.item.Out.the-variants as out
-use Rattle.items.specs.Judging.{foundIn, entriesOf, partOf, isKnown, freshOf, Entered, known, full, entered}
-use Rattle.items.proofs.Entries.{entries-more}
-
-pub found-packed : (s : List ℕ) {e start side len kind : ℕ} → Packed e start side len kind → foundIn s e ≡ partOf s kind start len
-unfolding foundIn nameIn partIn
-found-packed s {e} {start} {side} {len} {kind} p =
-    let c : take len (drop start (sideOf side s s)) ≡ take len (drop start s) = rw side-both in
-    let q : nameIn s s e ≡ partOf s kind start len .item = item-path (p .kind-is) (p .length-is) (rw (p .length-is, p .start-is, p .side-is) c) in
-    λ j. record { item = q j; start = p .start-is j }
+use Rattle.items.specs.Judging.{isKnown, freshOf, Entered, known, full, entered}
 
 items-entries : (s es : List ℕ) (names : ℕ) → itemsOf (entriesOf s es names) ≡ namesIn s s (take names es)
 unfolding itemsOf entriesOf foundIn namesIn

@@ -2,10 +2,10 @@
 use mathlib.Core.Path.{_≡_}
 use mathlib.Core.Logic.{_≢_}
 use mathlib.Core.Bool.{Bool, true, false}
-use mathlib.Core.List.{List, [], _∷_, _++_, map}
+use mathlib.Core.List.{List, [], _∷_, _++_}
 use Prim.Native.Nat.{ℕ, _+_, _-_, _≤_, _<_, min}
 use lib.Dec.{leb, eqb}
-use lib.ListN.{length, take, drop}
+use lib.ListN.{length}
 use Rattle.format.specs.declared.header.Header.{Header}
 use Rattle.format.specs.declared.error.Error.the-variants.{NotCanonical, TooManyEntries, TooManyRows}
 use Rattle.format.specs.Choice.{pick, _&&_, _||_}
@@ -17,19 +17,12 @@ use Rattle.format.specs.Header.{isLong, isNegativeAlias}
 use Rattle.format.specs.Names.{index, isSome}
 use Rattle.format.specs.Place.{Place, ended}
 use Rattle.format.specs.Reading.{Options, State, Found, itemsOf, content, formOf}
-use Rattle.symbols.specs.Entry.{startIn, nameIn}
+use Rattle.symbols.specs.Entries.{entriesOf, partOf}
 use Rattle.symbols.specs.Chains.{Chained}
 use Rattle.items.specs.declared.item.Out.{Out}
 use Rattle.items.specs.declared.item.Out.the-variants as out
 
 -- ---- the symbol table
-
--- The entry that a packed number stands for.
-unfoldable pub foundIn : List ℕ → ℕ → Found
-foundIn s e = record { item = nameIn s s e; start = startIn e }
-
-unfoldable pub entriesOf : List ℕ → List ℕ → ℕ → List Found
-entriesOf s es names = map (foundIn s) (take names es)
 
 -- A table within its limit. Strict reading has chains too, and so no name twice.
 pub record Fair (strict : Bool) (s es links : List ℕ) (names : ℕ) : Type 0 where
@@ -106,9 +99,6 @@ pub record Name (h : Header) : Type 0 where
   pub last : h .code ≤ Code.key
 
 -- ---- a name in full
-
-abbrev pub partOf : List ℕ → ℕ → ℕ → ℕ → Found
-partOf s kind start n = record { item = record { kind = kind; number = n; content = take n (drop start s) }; start = start }
 
 unfoldable pub freshOf : ℕ → ℕ → Out
 freshOf kind next = pick (eqb kind Kind.key) (out.NewKey next) (out.NewSymbol next)

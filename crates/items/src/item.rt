@@ -4,7 +4,6 @@ ghost use mathlib.Core.Bool.{Bool, true, false};
 ghost use mathlib.Core.List.{List};
 ghost use mathlib.Core.Option.{some};
 ghost use Prim.Native.Nat.{ℕ, _+_, _-_, _≤_, _<_};
-ghost use lib.Dec.{leb};
 ghost use lib.ListN.{length, drop};
 ghost use Rattle.format.specs.Choice.{_&&_, _||_};
 ghost use Rattle.format.specs.Kind as Kind;
@@ -26,6 +25,7 @@ use symbols::entry::plain_entry;
 use symbols::lookup::Links;
 use symbols::lookup::Noted;
 use symbols::lookup::note;
+use wire::codes::is_integer;
 use wire::header::Head;
 use wire::header::kind_of;
 use wire::rules::bad_text;
@@ -217,15 +217,6 @@ fn name(
         return new_name(s, kind, next, e, names, entries, links);
     }
     any_name(kind, next, e, names, entries)
-}
-
-pub fn is_integer(code: u8) -> bool
-    ensures { λ r. ⌜ r ≡ (leb Code.positive code && leb code Code.negative) ⌝ }
-{
-    if code < Header::POSITIVE {
-        return false;
-    }
-    code <= Header::NEGATIVE
 }
 
 // The item of a header that stands at an offset.

@@ -2,7 +2,5 @@
 pub mod LastRule
 pub mod Turns
 pub mod Tops
-pub mod FillLaws
-pub mod RowsLeft
-pub mod SecondPass
+pub mod FillSteps
 pub mod WalkSteps

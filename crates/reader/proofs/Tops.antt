@@ -18,10 +18,11 @@ use Rattle.format.proofs.Tests.{ltb-yes, ltb-no, pick-yes, pick-no}
 use Rattle.symbols.proofs.ChainLaws.{chain-start}
 use Rattle.reader.specs.declared.fields.Cursor.{Cursor}
 use Rattle.reader.specs.declared.checking.Checked.the-variants as checked
-use Rattle.items.specs.Judging.{entriesOf, Fair, Stands, spot}
+use Rattle.symbols.specs.Entries.{entriesOf}
+use Rattle.items.specs.Judging.{Fair, Stands, spot}
 use Rattle.reader.specs.Lanes.{Lane, Leads}
 use Rattle.reader.specs.Answers.{answerOf}
-use Rattle.items.proofs.Entries.{length-entries}
+use Rattle.symbols.proofs.Entries.{length-entries}
 
 pub fair-start : (strict : Bool) (s : List ℕ) → Fair strict s (replicate {A = ℕ} 256 0) (replicate {A = ℕ} 768 0) 0
 fair-start strict s = record { few = omega arith; size = refl; chained = λ _. chain-start s s _ _ refl refl }

@@ -1,13 +1,11 @@
 // Reading a bundle into a table of rows: checked first, then filled in.
 ghost use mathlib.Core.Path.{_≡_};
-ghost use Prim.Native.Nat.{_≤_, _<_, min};
-ghost use mathlib.Core.List.{_++_};
-ghost use lib.ListN.{length, drop, replicate};
+ghost use Prim.Native.Nat.{_≤_, min};
 ghost use Rattle.format.specs.declared.error.Mode.the-variants.{Lenient};
 ghost use Rattle.format.specs.Limits.{max-rows};
 ghost use Rattle.format.specs.Reading.{options, counts};
 ghost use Rattle.reader.specs.Answers.{answerOf, rowsIn};
-ghost use Rattle.reader.specs.Filling.{rowsFrom, begin};
+ghost use Rattle.reader.specs.Filling.{Fillable, Fills};
 ghost use Rattle.reader.specs.Promises.{Read};
 use crate::checking::Checked;
 use crate::fill::fill;
@@ -17,11 +15,11 @@ use format::SymbolTable;
 
 // Fills the first n rows, from an empty table of entries.
 fn filled_in(bytes: &[u8], rows: &mut [Row], n: usize)
-    requires { ⌜ (n ≤ length (now rows)) × (0 < n → length (now bytes) ≤ 16384) ⌝ }
-    ensures { λ _. ⌜ now (rows .exit) ≡ rowsFrom n (now (bytes .entry)) (replicate 256 0) begin ++ drop n (now (rows .entry)) ⌝ }
+    requires { ⌜ Fillable (now bytes) (now rows) n ⌝ }
+    ensures { λ _. ⌜ Fills (now (bytes .entry)) n (now (rows .entry)) (now (rows .exit)) ⌝ }
 {
-    let mut entries = [0u64; SymbolTable::MAX_ENTRIES];
-    fill(bytes, &mut entries, rows, n);
+    let mut table = [0u64; SymbolTable::MAX_ENTRIES];
+    fill(bytes, &mut table, rows, n);
 }
 
 // How many rows may be read into a table.

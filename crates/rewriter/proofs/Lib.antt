@@ -1,6 +1,5 @@
 -- Laws of measuring and writing a bundle item by item.
 pub mod MapLaws
-pub mod Turns
 pub mod Arms
 pub mod Rewritten
 pub mod MeasureSteps

@@ -5,9 +5,10 @@ use Prim.Native.Nat.{ℕ, _-_, _≤_, _<_}
 use native.Mathlib.Omega.{arith}
 use lib.ListN.{length}
 use Rattle.format.specs.Item.{Item}
-use Rattle.format.specs.Reading.{State, itemsOf, start}
+use Rattle.format.specs.Reading.{State, itemsOf, lenient, start}
 use Rattle.format.proofs.ReadBack.{reading-reads}
-use Rattle.format.proofs.Steps.{ending-good, reads-run, run-end}
+use Rattle.format.proofs.Turns.{all-read}
+use Rattle.format.proofs.Steps.{reads-run}
 use Rattle.rewriter.specs.declared.measuring.Tally.{Tally}
 use Rattle.rewriter.specs.Measuring.{Bundled, Partway, Stage, Onward, Here, Begun, Measures, Tallied, on, over}
 use Rattle.rewriter.specs.Measuring as measuring
@@ -56,6 +57,6 @@ module _ {a b s : List ℕ} {side : ℕ} {zs : List Item} {u : State} (w : Bundl
   -- none is left
   pub stage-end : Stage a b s zs u es links to plan t → length s ≤ t .at → Measures a b zs u es links plan t
   stage-end (on p) l =
-      let e : p .state ≡ u = ending-good (sym (run-end _ (p .state) s (omega (arith, p .offset))) ∙ p .reads) .1 in
+      let e = all-read lenient s (p .state) (p .reads) (omega (arith, p .offset)) in
       measuring.all (subst (λ (v : State). Tallied a b es links plan (zs ++ itemsOf (v .found)) t) e (record { row = p .row; small = p .small; measured = p .measured }))
   stage-end (over k n m) l = measuring.over n m

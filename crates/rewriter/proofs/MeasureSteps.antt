@@ -11,28 +11,28 @@ use Rattle.format.specs.declared.header.Header.{Header}
 use Rattle.format.specs.Header.{header, headerOf}
 use Rattle.format.specs.Item.{Item, isName}
 use Rattle.format.specs.Names.{index, namesFrom, noted}
-use Rattle.format.specs.Reading.{State, after, content, formOf, itemsOf}
+use Rattle.format.specs.Reading.{State, after, content, formOf, isContent, itemsOf, lenient}
 use Rattle.format.specs.Canonical.{full}
 use Rattle.format.proofs.Lists.{items-at, items-snoc, length-items}
 use Rattle.format.proofs.Names.{index-at, index-last, names-append, names-longer, noted-fresh, noted-known}
 use Rattle.format.proofs.Headers.{size-within}
 use Rattle.format.proofs.Encoding.{at-lt}
+use Rattle.format.proofs.Forms.{form-reference, form-text}
+use Rattle.format.proofs.Turns.{Turn, turn, header-within, items-all, items-more, flat-ends, flat-kept, reference-is, content-inside, content-ends, name-room, name-entry}
 use Rattle.symbols.specs.Entry.{Part, name, namesIn}
 use Rattle.symbols.specs.Noting.{Entered}
 use Rattle.symbols.proofs.ChainLaws.{length-names}
 use Rattle.encoder.specs.Plan.{Measured}
 use Rattle.encoder.proofs.Lengths.{header-most}
 use Rattle.encoder.proofs.MeasureLaws.{measure-plain, measure-known, measure-fresh, names-more}
-use Rattle.items.proofs.Contents.{form-coded}
 use Rattle.rewriter.specs.declared.measuring.Tally.{Tally}
 use Rattle.rewriter.specs.Measuring.{tallied, Mapped, Bundled, Partway, Onward, Here, on, over}
 use Rattle.rewriter.proofs.MapLaws.{mapped-noted, mapped-entry}
-use Rattle.rewriter.proofs.Turns.{Turn, turn, header-within, items-all, items-more}
-use Rattle.rewriter.proofs.Arms.{Plain, name-is, name-part, name-text, name-room, name-entry, name-ends, content-inside, content-length, reference-entry, reference-ends, reference-kept}
+use Rattle.rewriter.proofs.Arms.{Plain, name-is, name-part, name-text, content-length}
 
 module _ {a b s : List ℕ} {side : ℕ} {zs : List Item} {u : State} (w : Bundled a b s side zs u) {es links to plan : List ℕ} {t : Tally} (p : Partway a b s zs u es links to plan t)
     {h : Header} (e : some h ≡ headerOf (drop (t .at) s)) where
-  pub turned : Turn s (p .state) u h
+  pub turned : Turn lenient s (p .state) u h
   turned = turn s (p .reads) (rw (p .offset) e)
 
   abbrev st : State
@@ -122,17 +122,18 @@ module _ {a b s : List ℕ} {side : ℕ} {zs : List Item} {u : State} (w : Bundl
 
   module _ (hi : 7 ≤ h .code) where
     entry : getElem? (itemsOf (st .entries)) (h .payload) ≡ some x
-    entry = items-at (st .entries) (h .payload) (reference-entry turned hi)
+    entry = items-at (st .entries) (h .payload) (reference-is turned (form-reference h hi))
 
     pub reference-small : h .payload < 256
-    reference-small = omega (arith, at-lt (st .entries) (h .payload) (reference-entry turned hi), p .entries, p .few)
+    reference-small = omega (arith, at-lt (st .entries) (h .payload) (reference-is turned (form-reference h hi)), p .entries, p .few)
 
     pub reference-on : {r : Tally} → r ≡ tallied t (t .at + h .size) (t .entries) (t .names) (length (header 7 (getD to (h .payload) 0))) → Onward a b s zs u es links to (set plan (t .row) (getD to (h .payload) 0)) t r
+    unfolding isContent
     reference-on is =
         let (n, k) = p .mapped .at (h .payload) x entry in
         let l = at-lt (namesFrom [] ys) (getD to (h .payload) 0) (index-at x (namesFrom [] ys) k .at) in
-        onward _ _ _ _ is (omega (arith, header-most 7 (getD to (h .payload) 0) (omega (arith, l, names-count, p .measured .table .table .few)))) (reference-ends turned hi ∙ ap (λ (m : ℕ). m + h .size) (p .offset)) (ap length (reference-kept turned hi) ∙ p .entries) (p .few) (p .width)
-        (rw (reference-kept turned hi) (mapped-noted (p .mapped) x))
+        onward _ _ _ _ is (omega (arith, header-most 7 (getD to (h .payload) 0) (omega (arith, l, names-count, p .measured .table .table .few)))) (flat-ends turned (form-reference h hi) refl ∙ ap (λ (m : ℕ). m + h .size) (p .offset)) (ap length (flat-kept turned (form-reference h hi) refl) ∙ p .entries) (p .few) (p .width)
+        (rw (flat-kept turned (form-reference h hi) refl) (mapped-noted (p .mapped) x))
         (known-measured (getD to (h .payload) 0) n k)
 
   -- ---- content
@@ -172,14 +173,14 @@ module _ {a b s : List ℕ} {side : ℕ} {zs : List Item} {u : State} (w : Bundl
         }
 
     pub name-old : t .entries < 256
-    name-old = omega (arith, name-room turned f lo, p .entries)
+    name-old = omega (arith, name-room turned f (name-is turned f lo), p .entries)
 
     module _ {es′ links′ plan′ : List ℕ} {r : Tally} (v names n : ℕ) (is : r ≡ tallied t (t .at + h .size + h .payload) (t .entries + 1) names n) (little : n ≤ 16393)
         (known : index x (noted x (namesFrom [] ys)) ≡ some v) (measured : Measured 1024 a b es′ links′ plan′ (ys ++ (x ∷ [])) names (t .size + n)) where
       entry-on : Onward a b s zs u es′ links′ (set to (t .entries) v) plan′ t r
       entry-on =
-          onward _ _ _ n is little (name-ends turned f lo ∙ ap (λ (m : ℕ). m + h .size + h .payload) (p .offset))
-          (ap length (name-entry turned f lo) ∙ length-append (st .entries) (turned .y ∷ []) ∙ ap (λ (k : ℕ). k + 1) (p .entries)) (omega (arith, name-old)) (length-set to (t .entries) v ∙ p .width)
+          onward _ _ _ n is little (content-ends turned f ∙ ap (λ (m : ℕ). m + h .size + h .payload) (p .offset))
+          (ap length (name-entry turned f (name-is turned f lo)) ∙ length-append (st .entries) (turned .y ∷ []) ∙ ap (λ (k : ℕ). k + 1) (p .entries)) (omega (arith, name-old)) (length-set to (t .entries) v ∙ p .width)
           mapped measured
         where
           olds : length (itemsOf (st .entries)) ≡ t .entries
@@ -187,7 +188,7 @@ module _ {a b s : List ℕ} {side : ℕ} {zs : List Item} {u : State} (w : Bundl
 
           mapped : Mapped (itemsOf (next .entries)) (set to (t .entries) v) (noted x (namesFrom [] ys))
           mapped =
-              subst (λ (l : List Item). Mapped l (set to (t .entries) v) (noted x (namesFrom [] ys))) (sym (ap itemsOf (name-entry turned f lo) ∙ items-snoc (st .entries) (turned .y)))
+              subst (λ (l : List Item). Mapped l (set to (t .entries) v) (noted x (namesFrom [] ys))) (sym (ap itemsOf (name-entry turned f (name-is turned f lo)) ∙ items-snoc (st .entries) (turned .y)))
               (subst (λ (k : ℕ). Mapped (itemsOf (st .entries) ++ (x ∷ [])) (set to k v) (noted x (namesFrom [] ys))) olds
               (mapped-entry (p .mapped) x v (omega (arith, olds, name-old, p .width)) (name-is turned f lo) known))
 
@@ -239,7 +240,7 @@ pub record NameHere (a b s : List ℕ) (side : ℕ) (t : Tally) (h : Header) : T
 pub name-here : {a b s : List ℕ} {side : ℕ} {es links to plan : List ℕ} {t : Tally} {h : Header} → Here a b s side es links to plan t × (some h ≡ headerOf (drop (t .at) s)) × (5 ≤ h .code) × (h .code ≤ 6)
     → NameHere a b s side t h
 name-here {t} {h} (k, e, lo, hi) =
-    let f = form-coded h _ refl (omega arith) hi in
+    let f = form-text h (omega arith) hi in
     let d : t .at + h .size + h .payload - (t .at + h .size) ≡ h .payload = omega arith in
     record {
       form = f;

@@ -6,11 +6,12 @@ use native.Mathlib.Nat.{le-trans}
 use native.Mathlib.Omega.{arith}
 use lib.ListN.{length, drop, replicate, length-append, length-drop, length-replicate}
 use Rattle.format.specs.Item.{Item}
-use Rattle.format.specs.Reading.{State, itemsOf, start}
+use Rattle.format.specs.Reading.{State, itemsOf, lenient, start}
 use Rattle.format.specs.Canonical.{canonical}
 use Rattle.encoder.proofs.PutLaws.{canonical-within}
 use Rattle.format.proofs.ReadBack.{reading-reads}
-use Rattle.format.proofs.Steps.{ending-good, readItems, reads-found, reads-run, run-end, run-reads}
+use Rattle.format.proofs.Turns.{all-read}
+use Rattle.format.proofs.Steps.{readItems, reads-found, reads-run, run-reads}
 use Rattle.rewriter.specs.declared.putting.Spot.{Spot}
 use Rattle.rewriter.specs.Putting.{Planning, Put, Putting}
 use Rattle.rewriter.proofs.MapLaws.{mapped-start}
@@ -44,7 +45,7 @@ module _ {s : List ℕ} {zs ws : List Item} {u : State} {plan old : List ℕ} (g
   -- none is left
   pub put-end : Putting s zs u old new w → length s ≤ w .at → Put (zs ++ itemsOf (u .found)) old new w
   put-end p l =
-      let e : p .state ≡ u = ending-good (sym (run-end _ (p .state) s (omega (arith, p .offset))) ∙ p .reads) .1 in
+      let e = all-read lenient s (p .state) (p .reads) (omega (arith, p .offset)) in
       subst (λ (v : State). Put (zs ++ itemsOf (v .found)) old new w) e (p .put)
 
   pub kept : {new′ : List ℕ} {w′ : Spot} → Put zs old new′ w′ → Putting s zs u old new w → length new ≡ length new′

@@ -14,7 +14,7 @@ use Rattle.format.specs.Choice.{_&&_}
 use Rattle.format.specs.Header.{headerOf}
 use Rattle.format.specs.Item.{Item, isName}
 use Rattle.format.specs.Names.{index, namesFrom, noted}
-use Rattle.format.specs.Reading.{State, after, formOf, isContent, itemsOf}
+use Rattle.format.specs.Reading.{State, after, formOf, isContent, itemsOf, lenient}
 use Rattle.format.specs.Canonical.{canonical, full}
 use Rattle.format.proofs.Tests.{cases, order, and-true, and-right, leb-false, ltb-false, pick-yes, pick-no}
 use Rattle.format.proofs.Lists.{items-at, items-snoc, length-items}
@@ -22,23 +22,25 @@ use Rattle.format.proofs.Headers.{size-within}
 use Rattle.format.proofs.Names.{index-at}
 use Rattle.format.proofs.Encoding.{at-lt}
 use Rattle.format.proofs.Bounds.{noted-self}
+use Rattle.format.proofs.Forms.{form-reference}
+use Rattle.format.proofs.Turns.{Turn, turn, header-within, items-all, items-more, reference-is}
 use Rattle.encoder.specs.Output.{PutsAt}
 use Rattle.encoder.specs.Plan.{Planned, encodedAt, referTo, referring}
 use Rattle.encoder.proofs.MeasureLaws.{names-more}
 use Rattle.encoder.proofs.PutLaws.{at-seam, canonical-within, names-fewer, one-fits, puts-more}
 use Rattle.encoder.proofs.OutputLaws.{by-reference}
+use Rattle.wire.proofs.CodeLaws.{code-within}
 use Rattle.rewriter.specs.declared.putting.Spot.{Spot}
 use Rattle.rewriter.specs.Items.{rewritten, contentLength, Whole}
 use Rattle.rewriter.specs.Measuring.{Mapped}
 use Rattle.rewriter.specs.Putting.{Planning, Putting, Onward}
 use Rattle.rewriter.proofs.MapLaws.{mapped-noted, mapped-entry}
-use Rattle.rewriter.proofs.Turns.{Turn, turn, header-within, items-all, items-more}
-use Rattle.rewriter.proofs.Arms.{number-code, fixed-code, form-held, number-plain, number-full, fixed-plain, fixed-full, content-plain, content-full, name-is, reference-entry}
+use Rattle.rewriter.proofs.Arms.{fixed-code, form-held, number-plain, number-full, fixed-plain, fixed-full, content-plain, content-full, name-is}
 use Rattle.rewriter.proofs.Rewritten.{rewritten-number, rewritten-reference, rewritten-fixed, rewritten-name, rewritten-sized}
 
 module _ {s : List ℕ} {zs ws : List Item} {u : State} {plan old : List ℕ} (g : Planning s zs ws u plan (length old)) {new : List ℕ} {w : Spot} (p : Putting s zs u old new w)
     {h : Header} (e : some h ≡ headerOf (drop (w .at) s)) where
-  turned : Turn s (p .state) u h
+  turned : Turn lenient s (p .state) u h
   turned = turn s (p .reads) (rw (p .offset) e)
 
   abbrev st : State
@@ -78,7 +80,7 @@ module _ {s : List ℕ} {zs ws : List Item} {u : State} {plan old : List ℕ} (g
 
   module _ (hi : 7 ≤ h .code) where
     entry : (isName x ≡ true) × (index x (namesFrom [] ys) ≡ some (getD (p .to) (h .payload) 0))
-    entry = p .mapped .at (h .payload) x (items-at (st .entries) (h .payload) (reference-entry turned hi))
+    entry = p .mapped .at (h .payload) x (items-at (st .entries) (h .payload) (reference-is turned (form-reference h hi)))
 
     -- an entry has an index
     refers : getD plan (length ys) 0 ≡ getD (p .to) (h .payload) 0
@@ -88,38 +90,38 @@ module _ {s : List ℕ} {zs ws : List Item} {u : State} {plan old : List ℕ} (g
     refer-small : getD plan (length ys) 0 < 256
     refer-small = omega (arith, refers, at-lt (namesFrom [] ys) (getD (p .to) (h .payload) 0) (index-at x (namesFrom [] ys) (entry .1) .at), names-fewer ys (x ∷ later) few)
 
-  encoded-plain : isName x ≡ false → encodedAt plan (length ys) x ≡ full x
+  planned-plain : isName x ≡ false → encodedAt plan (length ys) x ≡ full x
   unfolding encodedAt
-  encoded-plain n = pick-no _ _ n
+  planned-plain n = pick-no _ _ n
 
-  encoded-name : isName x ≡ true → encodedAt plan (length ys) x ≡ referring (getD plan (length ys) 0) (full x)
+  planned-name : isName x ≡ true → encodedAt plan (length ys) x ≡ referring (getD plan (length ys) 0) (full x)
   unfolding encodedAt
-  encoded-name n = pick-yes _ _ n
+  planned-name n = pick-yes _ _ n
 
   as-planned : rewritten s (getD plan (length ys) 0) (st .at + h .size) h ≡ encodedAt plan (length ys) x
   as-planned = cases (leb 1 (h .code) && leb (h .code) 3) number other
     where
       number : leb 1 (h .code) && leb (h .code) 3 ≡ true → rewritten s (getD plan (length ys) 0) (st .at + h .size) h ≡ encodedAt plan (length ys) x
       number n =
-          let (l, m) = number-code (h .code) n in
-          rewritten-number s _ _ h n ∙ sym (number-full turned l m) ∙ sym (encoded-plain (number-plain turned l m .no-name))
+          let (l, m) = code-within 1 3 (h .code) n in
+          rewritten-number s _ _ h n ∙ sym (number-full turned l m) ∙ sym (planned-plain (number-plain turned l m .no-name))
 
       fixed : leb 1 (h .code) && leb (h .code) 3 ≡ false → h .code < 7 → eqb (h .code) 0 && ltb (h .sz) 5 ≡ true → rewritten s (getD plan (length ys) 0) (st .at + h .size) h ≡ encodedAt plan (length ys) x
       fixed n l f =
           let (c, z) = fixed-code (h .code) (h .sz) f in
-          rewritten-fixed s _ _ h n l f ∙ sym (fixed-full turned c z) ∙ sym (encoded-plain (fixed-plain turned c z .no-name))
+          rewritten-fixed s _ _ h n l f ∙ sym (fixed-full turned c z) ∙ sym (planned-plain (fixed-plain turned c z .no-name))
 
       held : leb 1 (h .code) && leb (h .code) 3 ≡ false → h .code < 7 → eqb (h .code) 0 && ltb (h .sz) 5 ≡ false → rewritten s (getD plan (length ys) 0) (st .at + h .size) h ≡ encodedAt plan (length ys) x
       held n l f =
           let c = form-held h n f l in
           order 5 (h .code)
-          (λ m. rewritten-name s _ _ h n l f m ∙ ap (referring (getD plan (length ys) 0)) (sym (content-full turned c)) ∙ sym (encoded-name (name-is turned c m)))
-          (λ m. rewritten-sized s _ _ h n l f m ∙ sym (content-full turned c) ∙ sym (encoded-plain (content-plain turned c m .no-name)))
+          (λ m. rewritten-name s _ _ h n l f m ∙ ap (referring (getD plan (length ys) 0)) (sym (content-full turned c)) ∙ sym (planned-name (name-is turned c m)))
+          (λ m. rewritten-sized s _ _ h n l f m ∙ sym (content-full turned c) ∙ sym (planned-plain (content-plain turned c m .no-name)))
 
       other : leb 1 (h .code) && leb (h .code) 3 ≡ false → rewritten s (getD plan (length ys) 0) (st .at + h .size) h ≡ encodedAt plan (length ys) x
       other n =
           order 7 (h .code)
-          (λ m. rewritten-reference s _ _ h n m ∙ sym (encoded-name (entry m .0) ∙ by-reference _ _ (refer-small m)))
+          (λ m. rewritten-reference s _ _ h n m ∙ sym (planned-name (entry m .0) ∙ by-reference _ _ (refer-small m)))
           (λ m. cases (eqb (h .code) 0 && ltb (h .sz) 5) (fixed n m) (held n m))
 
   -- ---- the buffer

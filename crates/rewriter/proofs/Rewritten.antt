@@ -12,9 +12,12 @@ use Rattle.format.specs.Header.{header}
 use Rattle.format.specs.Reading.{Form, formOf, isContent}
 use Rattle.format.specs.Canonical.{full}
 use Rattle.format.proofs.Tests.{leb-yes, leb-no, pick-yes, pick-no}
+use Rattle.format.proofs.Forms.{form-fixed, form-reference}
+use Rattle.wire.specs.Numbers.{numberOf}
+use Rattle.wire.proofs.CodeLaws.{code-within, form-number}
 use Rattle.encoder.specs.Plan.{referring}
-use Rattle.rewriter.specs.Items.{numberOf, sized, rewritten, contentLength, Whole}
-use Rattle.rewriter.proofs.Arms.{number-code, fixed-code, form-number, form-fixed, form-held, form-reference}
+use Rattle.rewriter.specs.Items.{sized, rewritten, contentLength, Whole}
+use Rattle.rewriter.proofs.Arms.{fixed-code, form-held}
 
 module _ (s : List ℕ) (refer next : ℕ) (h : Header) where
   none-follows : (f : Form) → formOf h ≡ f → isContent f ≡ false → next ≡ next + contentLength h
@@ -28,7 +31,7 @@ module _ (s : List ℕ) (refer next : ℕ) (h : Header) where
 
     pub ends-number : next ≡ next + contentLength h
     unfolding isContent
-    ends-number = none-follows _ (form-number h (number-code _ n .0) (number-code _ n .1)) refl
+    ends-number = none-follows _ (form-number h (code-within 1 3 _ n .0) (code-within 1 3 _ n .1)) refl
 
   module _ (n : leb 1 (h .code) && leb (h .code) 3 ≡ false) where
     -- a reference

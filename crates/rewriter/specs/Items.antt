@@ -1,5 +1,5 @@
 -- An item of a bundle that reads, by its header and what stands after it.
-use Prim.Native.Nat.{ℕ, _+_, _-_, _^_, _≤_, min}
+use Prim.Native.Nat.{ℕ, _+_, _≤_}
 use mathlib.Core.Path.{_≡_}
 use mathlib.Core.Bool.{true}
 use mathlib.Core.List.{List, [], _++_}
@@ -7,14 +7,13 @@ use lib.Dec.{leb, ltb, eqb}
 use lib.ListN.{length, take, drop}
 use Rattle.format.specs.Choice.{pick, _&&_}
 use Rattle.format.specs.declared.header.Header.{Header}
+use Rattle.format.specs.Code as Code
+use Rattle.format.specs.Limits.{fixed-sizes}
 use Rattle.format.specs.Header.{header}
 use Rattle.format.specs.Reading.{formOf, isContent}
 use Rattle.format.specs.Canonical.{full}
+use Rattle.wire.specs.Numbers.{numberOf}
 use Rattle.encoder.specs.Plan.{referring}
-
--- The number of an integer or a container.
-unfoldable pub numberOf : ℕ → ℕ → ℕ
-numberOf code p = pick (eqb code 2) (min p (2 ^ 64 - 2)) p
 
 -- A header in its shortest form and the content, which begins at next.
 unfoldable pub sized : List ℕ → ℕ → Header → List ℕ
@@ -23,10 +22,10 @@ sized s next h = header (h .code) (h .payload) ++ take (h .payload) (drop next s
 -- An item as it is written, where refer is how a name is written.
 unfoldable pub rewritten : List ℕ → ℕ → ℕ → Header → List ℕ
 rewritten s refer next h =
-    pick (leb 1 (h .code) && leb (h .code) 3) (header (h .code) (numberOf (h .code) (h .payload)))
-    (pick (leb 7 (h .code)) (header 7 refer)
-    (pick (eqb (h .code) 0 && ltb (h .sz) 5) (full (record { kind = h .sz; number = h .payload; content = [] }))
-    (pick (leb 5 (h .code)) (referring refer (sized s next h)) (sized s next h))))
+    pick (leb Code.positive (h .code) && leb (h .code) Code.container) (header (h .code) (numberOf (h .code) (h .payload)))
+    (pick (leb Code.reference (h .code)) (header Code.reference refer)
+    (pick (eqb (h .code) Code.binary && ltb (h .sz) fixed-sizes) (full (record { kind = h .sz; number = h .payload; content = [] }))
+    (pick (leb Code.symbol (h .code)) (referring refer (sized s next h)) (sized s next h))))
 
 -- The bytes of content after a header.
 abbrev pub contentLength : Header → ℕ

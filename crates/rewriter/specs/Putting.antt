@@ -1,8 +1,9 @@
 -- A bundle written item by item, after other items, as it was planned.
-use Prim.Native.Nat.{ℕ, _+_, _≤_, _<_}
+use Prim.Native.Nat.{ℕ, _≤_, _<_}
 use mathlib.Core.Path.{_≡_}
 use mathlib.Core.List.{List, [], _++_}
 use lib.ListN.{length, drop}
+use Rattle.format.specs.Limits.{max-bytes, max-entries, max-rows}
 use Rattle.format.specs.Answer.{good}
 use Rattle.format.specs.Item.{Item}
 use Rattle.format.specs.Names.{namesFrom}
@@ -15,11 +16,11 @@ use Rattle.rewriter.specs.Measuring.{Mapped}
 
 -- The bundle s reads as u. The items zs come before it and ws after it; all are planned, and fit the buffer.
 pub record Planning (s : List ℕ) (zs ws : List Item) (u : State) (plan : List ℕ) (capacity : ℕ) : Type 0 where
-  pub short : length s ≤ 16384
+  pub short : length s ≤ max-bytes
   pub reads : reading lenient s ≡ good u
-  pub size : length plan ≡ 1024
+  pub size : length plan ≡ max-rows
   pub planned : Planned plan ((zs ++ itemsOf (u .found)) ++ ws)
-  pub few : length (namesFrom [] ((zs ++ itemsOf (u .found)) ++ ws)) ≤ 256
+  pub few : length (namesFrom [] ((zs ++ itemsOf (u .found)) ++ ws)) ≤ max-entries
   pub fits : length (canonical ((zs ++ itemsOf (u .found)) ++ ws)) ≤ capacity
 
 -- The items zs are written.
@@ -34,8 +35,8 @@ pub record Putting (s : List ℕ) (zs : List Item) (u : State) (old new : List �
   pub reads : run lenient state 0 (drop (state .at) s) ≡ good u
   -- its entries are among the names so far
   pub to : List ℕ
-  pub width : length to ≡ 256
-  pub few : length (state .entries) ≤ 256
+  pub width : length to ≡ max-entries
+  pub few : length (state .entries) ≤ max-entries
   pub mapped : Mapped (itemsOf (state .entries)) to (namesFrom [] (zs ++ itemsOf (state .found)))
   pub put : Put (zs ++ itemsOf (state .found)) old new w
 

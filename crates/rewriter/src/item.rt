@@ -6,48 +6,37 @@ ghost use Prim.Native.Nat.{ℕ, _≤_};
 ghost use lib.Dec.{leb, ltb, eqb};
 ghost use lib.ListN.{length};
 ghost use Rattle.format.specs.Choice.{_&&_};
+ghost use Rattle.format.specs.Code as Code;
+ghost use Rattle.format.specs.Limits.{fixed-sizes, max-header};
 ghost use Rattle.format.specs.Header.{header, headerOf};
-ghost use Rattle.rewriter.specs.Items.{numberOf};
 use format::Header;
+use format::Row;
 use wire::header::header_len;
 
 // An integer or a container?
 pub fn is_number(code: u8) -> bool
-    ensures { λ r. ⌜ r ≡ (leb 1 code && leb code 3) ⌝ }
+    ensures { λ r. ⌜ r ≡ (leb Code.positive code && leb code Code.container) ⌝ }
 {
-    if code < 1 {
+    if code < Header::POSITIVE {
         return false;
     }
-    code <= 3
+    code <= Header::CONTAINER
 }
 
 // Null, true, false or a float?
 pub fn is_fixed(code: u8, sz: u8) -> bool
-    ensures { λ r. ⌜ r ≡ (eqb code 0 && ltb sz 5) ⌝ }
+    ensures { λ r. ⌜ r ≡ (eqb code Code.binary && ltb sz fixed-sizes) ⌝ }
 {
-    if code != 0 {
+    if code != Header::BINARY {
         return false;
     }
-    sz < 5
-}
-
-// The number of an integer or a container: the negative alias stands for the least integer.
-pub fn number_of(code: u8, p: u64) -> u64
-    ensures { λ r. ⌜ r ≡ numberOf code p ⌝ }
-{
-    // the payload first: signs of integers cannot be foretold
-    if p == 18446744073709551615 {
-        if code == 2 {
-            return 18446744073709551614;
-        }
-    }
-    p
+    sz < Row::BYTES
 }
 
 // The length of the shortest header in place of one that was read: one byte stays one byte.
 pub fn shortest_len(h: Header) -> usize
     requires { ⌜ ((bs : List ℕ) × (some h ≡ headerOf bs)) ⌝ }
-    ensures { λ r. ⌜ (r ≡ length (header (h .code) (h .payload))) × (r ≤ 9) ⌝ }
+    ensures { λ r. ⌜ (r ≡ length (header (h .code) (h .payload))) × (r ≤ max-header) ⌝ }
 {
     let size = h.size;
     if size == 1 {

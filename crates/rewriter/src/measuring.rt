@@ -4,14 +4,17 @@ ghost use mathlib.Core.List.{List};
 ghost use mathlib.Core.Option.{some};
 ghost use Prim.Native.Nat.{_+_, _≤_, _<_, _^_};
 ghost use lib.ListN.{length, drop, getD, set};
+ghost use Rattle.format.specs.Code as Code;
+ghost use Rattle.format.specs.Limits.{max-bytes, max-entries, max-header, max-rows};
 ghost use Rattle.format.specs.Header.{header, headerOf};
 ghost use Rattle.format.specs.Item.{Item};
 ghost use Rattle.format.specs.Reading.{State};
-ghost use Rattle.rewriter.specs.Measuring.{tallied, Bundled, Partway, Onward, Here, Begun, Ready, Measures};
+ghost use Rattle.rewriter.specs.Measuring.{max-item, tallied, Bundled, Partway, Onward, Here, Begun, Ready, Measures};
 use crate::item::is_fixed;
 use crate::item::is_number;
 use crate::item::shortest_len;
 use encoder::putting::Reference;
+use format::ByteLength;
 use format::Header;
 use format::Row;
 use format::SymbolTable;
@@ -39,12 +42,12 @@ pub struct Tally {
 
 impl Tally {
     // in place of the count of names: there is one too many
-    pub const OVER: usize = 257;
+    pub const OVER: usize = SymbolTable::MAX_ENTRIES + 1;
 }
 
 // After an item of n bytes that ends at an offset.
 fn after(t: Tally, at: usize, entries: usize, names: usize, n: usize) -> Tally
-    requires { ⌜ (t .row < 1024) × (t .size + n < 2 ^ 64) ⌝ }
+    requires { ⌜ (t .row < max-rows) × (t .size + n < 2 ^ 64) ⌝ }
     ensures { λ r. ⌜ r ≡ tallied t at entries names n ⌝ }
 {
     Tally {
@@ -56,24 +59,30 @@ fn after(t: Tally, at: usize, entries: usize, names: usize, n: usize) -> Tally
     }
 }
 
-// After an item with a header of n bytes and content of p bytes, which begins at next.
-fn held(t: Tally, next: usize, n: usize, p: u64) -> Tally
-    requires { ⌜ (t .row < 1024) × (t .size + 16393 < 2 ^ 64) × (next ≤ 16384) × (n ≤ 9) × (p ≤ 16384) ⌝ }
-    ensures { λ r. ⌜ r ≡ tallied t (next + p) (t .entries) (t .names) (n + p) ⌝ }
+// After an item with a header of n bytes and content, which begins at next.
+fn held(t: Tally, next: usize, n: usize, len: ByteLength) -> Tally
+    requires { ⌜ (t .row < max-rows) × (t .size + max-item < 2 ^ 64) × (next ≤ max-bytes) × (n ≤ max-header) × (len .0 ≤ max-bytes) ⌝ }
+    ensures { λ r. ⌜ r ≡ tallied t (next + len .0) (t .entries) (t .names) (n + len .0) ⌝ }
 {
-    let content = p as usize;
+    let content = len.0 as usize;
     after(t, next + content, t.entries, t.names, n + content)
 }
 
 // After a name that has an index.
 fn referred(plan: &mut [u16; Row::MAX_COUNT], t: Tally, at: usize, entries: usize, i: u16) -> Tally
-    requires { ⌜ (length (now plan) ≡ 1024) × (t .row < 1024) × (t .size + 16393 < 2 ^ 64) ⌝ }
-    ensures state { λ r. ⌜ r ≡ tallied t at entries (t .names) (length (header 7 i)) ⌝ }
+    requires { ⌜ (length (now plan) ≡ max-rows) × (t .row < max-rows) × (t .size + max-item < 2 ^ 64) ⌝ }
+    ensures state { λ r. ⌜ r ≡ tallied t at entries (t .names) (length (header Code.reference i)) ⌝ }
     ensures planned { λ _. ⌜ now (plan .exit) ≡ set (now (plan .entry)) (t .row) i ⌝ }
 {
     let row = t.row;
     plan[row] = i;
-    after(t, at, entries, t.names, header_len(7, i as u64))
+    after(
+        t,
+        at,
+        entries,
+        t.names,
+        header_len(Header::REFERENCE, i as u64),
+    )
 }
 
 // A reference: its entry has an index among the names so far.
@@ -84,8 +93,8 @@ fn reference(
     next: usize,
     index: u64,
 ) -> Tally
-    requires { ⌜ (length (now to) ≡ 256) × (index < 256) × (length (now plan) ≡ 1024) × (t .row < 1024) × (t .size + 16393 < 2 ^ 64) ⌝ }
-    ensures state { λ r. ⌜ r ≡ tallied t next (t .entries) (t .names) (length (header 7 (getD (now (to .entry)) index 0))) ⌝ }
+    requires { ⌜ (length (now to) ≡ max-entries) × (index < max-entries) × (length (now plan) ≡ max-rows) × (t .row < max-rows) × (t .size + max-item < 2 ^ 64) ⌝ }
+    ensures state { λ r. ⌜ r ≡ tallied t next (t .entries) (t .names) (length (header Code.reference (getD (now (to .entry)) index 0))) ⌝ }
     ensures planned { λ _. ⌜ now (plan .exit) ≡ set (now (plan .entry)) (t .row) (getD (now (to .entry)) index 0) ⌝ }
 {
     let i = index as usize;
@@ -94,9 +103,9 @@ fn reference(
 
 // A name of n bytes in full that ends at e, which is new.
 fn fresh(plan: &mut [u16; Row::MAX_COUNT], t: Tally, e: usize, n: usize) -> Tally
-    requires { ⌜ (length (now plan) ≡ 1024) × (t .row < 1024) × (t .size + 16393 < 2 ^ 64) × (n ≤ 16393) × (t .entries < 256) × (t .names < 256) ⌝ }
+    requires { ⌜ (length (now plan) ≡ max-rows) × (t .row < max-rows) × (t .size + max-item < 2 ^ 64) × (n ≤ max-item) × (t .entries < max-entries) × (t .names < max-entries) ⌝ }
     ensures state { λ r. ⌜ r ≡ tallied t e (t .entries + 1) (t .names + 1) n ⌝ }
-    ensures planned { λ _. ⌜ now (plan .exit) ≡ set (now (plan .entry)) (t .row) 256 ⌝ }
+    ensures planned { λ _. ⌜ now (plan .exit) ≡ set (now (plan .entry)) (t .row) max-entries ⌝ }
 {
     let row = t.row;
     plan[row] = Reference::FULL;
@@ -105,7 +114,7 @@ fn fresh(plan: &mut [u16; Row::MAX_COUNT], t: Tally, e: usize, n: usize) -> Tall
 
 // One name too many: the rest of the bundle, up to its end, is not measured.
 fn over(t: Tally, end: usize) -> Tally
-    ensures { λ r. ⌜ (r .at ≡ end) × (r .names ≡ 257) ⌝ }
+    ensures { λ r. ⌜ (r .at ≡ end) × (r .names ≡ max-entries + 1) ⌝ }
 {
     Tally {
         at: end,
@@ -129,15 +138,16 @@ fn name<'a>(
     t: Tally,
     h: Header,
 ) -> Tally
-    requires { ⌜ Here (now first) (now second) (now s) side (now entries) (now links) (now to) (now plan) t × (some h ≡ headerOf (drop (t .at) (now s))) × (5 ≤ h .code) × (h .code ≤ 6) ⌝ }
+    requires { ⌜ Here (now first) (now second) (now s) side (now entries) (now links) (now to) (now plan) t × (some h ≡ headerOf (drop (t .at) (now s))) × (Code.symbol ≤ h .code) × (h .code ≤ Code.key) ⌝ }
     ensures { λ r. ⌜ ((zs : List Item) (u : State) → Bundled (now (first .entry)) (now (second .entry)) (now (s .entry)) side zs u
         → Partway (now (first .entry)) (now (second .entry)) (now (s .entry)) zs u (now (entries .entry)) (now (links .entry)) (now (to .entry)) (now (plan .entry)) t
         → Onward (now (first .entry)) (now (second .entry)) (now (s .entry)) zs u (now (entries .exit)) (now (links .exit)) (now (to .exit)) (now (plan .exit)) t r) ⌝ }
 {
     let next = t.at + h.size;
-    let e = next + h.payload as usize;
+    let len = ByteLength::of(h);
+    let e = next + len.0 as usize;
     let old = t.entries;
-    let kind = h.code + 5;
+    let kind = h.code + Header::KIND_SHIFT;
     let p = &s[next..e];
     let key = key_of(kind, p);
     let n = t.names;
@@ -174,20 +184,19 @@ fn headed<'a>(
 {
     let next = t.at + h.size;
     let code = h.code;
-    let p = h.payload;
     if is_number(code) {
         return after(t, next, t.entries, t.names, shortest_len(h));
     }
-    if 7 <= code {
-        return reference(to, plan, t, next, p);
+    if Header::REFERENCE <= code {
+        return reference(to, plan, t, next, h.payload);
     }
-    if 5 <= code {
+    if Header::SYMBOL <= code {
         return name(first, second, s, side, entries, links, to, plan, t, h);
     }
     if is_fixed(code, h.sz) {
         return after(t, next, t.entries, t.names, h.size);
     }
-    held(t, next, shortest_len(h), p)
+    held(t, next, shortest_len(h), ByteLength::of(h))
 }
 
 // The next item.

@@ -4,6 +4,7 @@ ghost use mathlib.Core.List.{List, _++_};
 ghost use mathlib.Core.Option.{some};
 ghost use Prim.Native.Nat.{ℕ, _+_, _≤_, _<_};
 ghost use lib.ListN.{length, drop};
+ghost use Rattle.format.specs.Limits.{max-bytes};
 ghost use Rattle.format.specs.Header.{headerOf};
 ghost use Rattle.format.specs.Item.{Item};
 ghost use Rattle.format.specs.Reading.{State, itemsOf};
@@ -12,12 +13,13 @@ ghost use Rattle.rewriter.specs.Items.{rewritten, contentLength, Whole};
 ghost use Rattle.rewriter.specs.Putting.{Planning, Putting, Onward, Here, Ready, Put};
 use crate::item::is_fixed;
 use crate::item::is_number;
-use crate::item::number_of;
 use encoder::putting::put_fixed;
 use encoder::putting::put_named;
 use encoder::putting::put_sized;
+use format::ByteLength;
 use format::Header;
 use format::Row;
+use wire::codes::number_of;
 use wire::header::Head;
 use wire::header::header_at;
 use wire::output::put_header;
@@ -37,7 +39,7 @@ pub struct Spot {
 
 // The item of a header, whose content begins at next; a name is written by its reference.
 fn put_item(out: &mut [u8], s: &[u8], refer: u16, next: usize, h: Header) -> Step
-    requires { ⌜ Whole (now s) next h × (length (now s) ≤ 16384) × (length (rewritten (now s) refer next h) ≤ length (now out)) ⌝ }
+    requires { ⌜ Whole (now s) next h × (length (now s) ≤ max-bytes) × (length (rewritten (now s) refer next h) ≤ length (now out)) ⌝ }
     ensures puts { λ r. ⌜ Puts (rewritten (now (s .entry)) refer next h) (r .len) (now (out .entry)) (now (out .exit)) ⌝ }
     ensures ends { λ r. ⌜ r .at ≡ next + contentLength h ⌝ }
 {
@@ -49,10 +51,10 @@ fn put_item(out: &mut [u8], s: &[u8], refer: u16, next: usize, h: Header) -> Ste
             len: put_header(out, code, number_of(code, p)),
         };
     }
-    if 7 <= code {
+    if Header::REFERENCE <= code {
         return Step {
             at: next,
-            len: put_header(out, 7, refer as u64),
+            len: put_header(out, Header::REFERENCE, refer as u64),
         };
     }
     if is_fixed(code, h.sz) {
@@ -61,16 +63,17 @@ fn put_item(out: &mut [u8], s: &[u8], refer: u16, next: usize, h: Header) -> Ste
             len: put_fixed(out, h.sz, p),
         };
     }
-    let e = next + p as usize;
-    if 5 <= code {
+    let len = ByteLength::of(h);
+    let e = next + len.0 as usize;
+    if Header::SYMBOL <= code {
         return Step {
             at: e,
-            len: put_named(out, refer, code, p, &s[next..e]),
+            len: put_named(out, refer, code, len.0, &s[next..e]),
         };
     }
     Step {
         at: e,
-        len: put_sized(out, code, p, &s[next..e]),
+        len: put_sized(out, code, len.0, &s[next..e]),
     }
 }
 

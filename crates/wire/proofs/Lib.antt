@@ -1,5 +1,6 @@
 -- Laws for the leaves.
 pub mod HeaderLaws
+pub mod CodeLaws
 pub mod SameLaws
 pub mod Wrote
 pub mod Powers

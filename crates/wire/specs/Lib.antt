@@ -1,4 +1,5 @@
 -- What the answers of the leaves mean.
 pub mod Heads
+pub mod Numbers
 pub mod Output
 pub mod Widths

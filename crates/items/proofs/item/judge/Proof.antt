@@ -4,7 +4,8 @@ use mathlib.Core.Path.{sym, _∙_}
 use Rattle.items.proofs.Ladder.{waste}
 use Rattle.items.proofs.Flat.{fixed-value, plain-small, plain-integer}
 use Rattle.items.proofs.Contents.{body-bytes, body-string, name-of}
-use Rattle.items.proofs.Heads.{standing, one-byte, past-header, case, is-zero}
+use Rattle.items.proofs.Heads.{standing, one-byte, past-header, case}
+use Rattle.wire.proofs.CodeLaws.{is-zero}
 use borrow.Author.Needs.{needs}
 use Rattle.items.proofs.item.judge.Statement.{statement}
 use Rattle.items.proofs.item.judge.Tie as tie

@@ -1,5 +1,6 @@
 -- `rewriter::measuring::item` meets its contract: in a bundle that reads no header is cut. Assumes nothing.
-use Rattle.rewriter.proofs.Turns.{never-cut}
+use Rattle.format.specs.Reading.{lenient}
+use Rattle.format.proofs.Turns.{never-cut}
 use borrow.Author.Needs.{needs}
 use Rattle.rewriter.proofs.measuring.item.Statement.{statement}
 use Rattle.rewriter.proofs.measuring.item.Tie as tie
@@ -23,7 +24,7 @@ headed-requires c κs =
 returns : tie.Need-returns
 returns c =
     let s = c .before .before .before .before .before .before in
-    λ zs u w p. never-cut _ (p .state) (p .reads) (rw (p .offset) (s .pre .1)) (rw (p .offset) (rw (c .enum-told .given .1) at (c .before .before .header-at .ensures)))
+    λ zs u w p. never-cut lenient _ (p .state) (p .reads) (rw (p .offset) (s .pre .1)) (rw (p .offset) (rw (c .enum-told .given .1) at (c .before .before .header-at .ensures)))
 
 returns-2 : tie.Need-returns-2
 returns-2 c = search needs

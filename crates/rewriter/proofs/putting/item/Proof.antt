@@ -1,5 +1,6 @@
 -- `rewriter::putting::item` meets its contract: in a bundle that reads no header is cut. Assumes nothing.
-use Rattle.rewriter.proofs.Turns.{never-cut}
+use Rattle.format.specs.Reading.{lenient}
+use Rattle.format.proofs.Turns.{never-cut}
 use borrow.Author.Needs.{needs}
 use Rattle.rewriter.proofs.putting.item.Statement.{statement}
 use Rattle.rewriter.proofs.putting.item.Tie as tie
@@ -21,7 +22,7 @@ put-next-requires c κs =
 returns : tie.Need-returns
 returns c =
     let s = c .before .before .before .before .before in
-    λ zs ws u old g p. never-cut _ (p .state) (p .reads) (rw (p .offset) (s .pre .1)) (rw (p .offset) (rw (c .enum-told .given .1) at (c .before .before .header-at .ensures)))
+    λ zs ws u old g p. never-cut lenient _ (p .state) (p .reads) (rw (p .offset) (s .pre .1)) (rw (p .offset) (rw (c .enum-told .given .1) at (c .before .before .header-at .ensures)))
 
 same-length : tie.Need-same-length
 same-length c = search needs

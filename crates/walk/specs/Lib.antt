@@ -1,0 +1,3 @@
+-- The walk over a bundle that reads.
+pub mod Walking
+pub mod Laws
