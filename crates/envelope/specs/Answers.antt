@@ -19,12 +19,16 @@ unfoldable pub sizeIn : Answer (List ℕ) → ℕ
 sizeIn (failed f) = 0
 sizeIn (good bs) = overhead + length bs
 
--- What the first two bytes say.
+-- The bytes of the length, which stands before the version.
+abbrev pub length-size : ℕ
+length-size = overhead - 1
+
+-- What they say.
 unfoldable pub lengthField : List ℕ → ℕ
-lengthField bs = bigEndian 0 (take 2 bs)
+lengthField bs = bigEndian 0 (take length-size bs)
 
 -- How many bytes have to come before opening answers for good. A length that is too large is refused without waiting for them.
 unfoldable pub missingFrom : List ℕ → ℕ
 missingFrom bs =
     let n = lengthField bs in
-    pick (ltb (length bs) 2) (2 - length bs) (pick (ltb (1 + max-bytes) n) 0 ((2 + n) - length bs))
+    pick (ltb (length bs) length-size) (length-size - length bs) (pick (ltb (1 + max-bytes) n) 0 ((length-size + n) - length bs))

@@ -2,6 +2,9 @@
 ghost use lib.ListN.{length};
 ghost use Rattle.format.specs.Envelope.{closing};
 ghost use Rattle.format.specs.Written.{Writes};
+use crate::LENGTH_SIZE;
+use crate::OVERHEAD;
+use crate::VERSION;
 use format::Bundle;
 use format::Error;
 use format::Written;
@@ -16,10 +19,10 @@ pub fn close(bundle: &[u8], out: &mut [u8]) -> Written
     if Bundle::MAX_BYTES < n {
         return Written::fail(Error::TooLong, 0);
     }
-    if out.len() < crate::OVERHEAD + n {
+    if out.len() < OVERHEAD + n {
         return Written::fail(Error::OutputTooLong, 0);
     }
-    put_number(out, 2, 1 + n as u64);
-    out[2] = crate::VERSION;
-    Written::Done(crate::OVERHEAD + copy(&mut out[crate::OVERHEAD..], bundle))
+    put_number(out, LENGTH_SIZE, 1 + n as u64);
+    out[LENGTH_SIZE] = VERSION;
+    Written::Done(OVERHEAD + copy(&mut out[OVERHEAD..], bundle))
 }

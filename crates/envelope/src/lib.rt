@@ -9,8 +9,11 @@ pub use opening::open;
 
 pub const VERSION: u8 = 1;
 
-// The bytes before the bundle.
-pub const OVERHEAD: usize = 3;
+// The bytes of the length.
+pub const LENGTH_SIZE: usize = 2;
+
+// The bytes before the bundle: the length and the version.
+pub const OVERHEAD: usize = LENGTH_SIZE + 1;
 
 // The longest envelope.
 pub const MAX_BYTES: usize = OVERHEAD + format::Bundle::MAX_BYTES;

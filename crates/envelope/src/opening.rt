@@ -5,7 +5,10 @@ ghost use lib.ListN.{length};
 ghost use Rattle.format.specs.Answer.{counted};
 ghost use Rattle.format.specs.Envelope.{opening};
 ghost use Rattle.format.specs.Written.{answerOf};
-ghost use Rattle.envelope.specs.Answers.{bundleIn, lengthField, missingFrom};
+ghost use Rattle.envelope.specs.Answers.{bundleIn, lengthField, missingFrom, length-size};
+use crate::LENGTH_SIZE;
+use crate::OVERHEAD;
+use crate::VERSION;
 use format::Bundle;
 use format::Error;
 use format::Written;
@@ -18,7 +21,7 @@ fn wide(b: u8) -> usize
 
 // What the first two bytes say: the number of bytes after them.
 fn length_field(bytes: &[u8]) -> usize
-    requires { ⌜ 2 ≤ length (now bytes) ⌝ }
+    requires { ⌜ length-size ≤ length (now bytes) ⌝ }
     ensures { λ r. ⌜ r ≡ lengthField (now (bytes .entry)) ⌝ }
 {
     wide(bytes[0]) * 256 + wide(bytes[1])
@@ -28,7 +31,7 @@ fn length_field(bytes: &[u8]) -> usize
 pub fn bundle_len(bytes: &[u8]) -> Written
     ensures { λ r. ⌜ answerOf r ≡ counted (opening (now (bytes .entry))) ⌝ }
 {
-    if bytes.len() < 2 {
+    if bytes.len() < LENGTH_SIZE {
         return Written::fail(Error::InvalidEnvelope, 0);
     }
     let n = length_field(bytes);
@@ -38,10 +41,10 @@ pub fn bundle_len(bytes: &[u8]) -> Written
     if Bundle::MAX_BYTES < n - 1 {
         return Written::fail(Error::InvalidEnvelope, 0);
     }
-    if bytes.len() - 2 < n {
+    if bytes.len() - LENGTH_SIZE < n {
         return Written::fail(Error::InvalidEnvelope, 0);
     }
-    if bytes[2] != crate::VERSION {
+    if bytes[LENGTH_SIZE] != VERSION {
         return Written::fail(Error::UnsupportedVersion, 0);
     }
     Written::Done(n - 1)
@@ -52,7 +55,7 @@ pub fn open(bytes: &[u8]) -> &[u8]
     ensures { λ r. ⌜ now r ≡ bundleIn (opening (now (bytes .entry))) ⌝ }
 {
     match bundle_len(bytes) {
-        Written::Done(n) => &bytes[crate::OVERHEAD..crate::OVERHEAD + n],
+        Written::Done(n) => &bytes[OVERHEAD..OVERHEAD + n],
         Written::Failed(_) => &bytes[0..0],
     }
 }
@@ -61,15 +64,15 @@ pub fn open(bytes: &[u8]) -> &[u8]
 pub fn missing(bytes: &[u8]) -> usize
     ensures { λ r. ⌜ r ≡ missingFrom (now (bytes .entry)) ⌝ }
 {
-    if bytes.len() < 2 {
-        return 2 - bytes.len();
+    if bytes.len() < LENGTH_SIZE {
+        return LENGTH_SIZE - bytes.len();
     }
     let n = length_field(bytes);
     if 1 + Bundle::MAX_BYTES < n {
         return 0;
     }
-    if 2 + n < bytes.len() {
+    if LENGTH_SIZE + n < bytes.len() {
         return 0;
     }
-    2 + n - bytes.len()
+    LENGTH_SIZE + n - bytes.len()
 }
