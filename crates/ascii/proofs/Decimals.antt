@@ -6,7 +6,7 @@ use native.Mathlib.Nat.{div-lt-iff-lt-mul, pow-suc}
 use native.Mathlib.Omega.{arith}
 use lib.ListN.{length, length-append}
 use Rattle.format.proofs.Tests.{ltb-no, ltb-yes, order, pick-no, pick-yes}
-use Rattle.ascii.specs.Text.{decimal, decimalIn}
+use Rattle.ascii.specs.Text.{decimal, decimalIn, max-digits}
 use Rattle.wire.specs.Output.{Puts}
 use Rattle.ascii.proofs.Writing.{Stage, start, first-fits, first}
 
@@ -41,9 +41,9 @@ few zero n = omega arith
 few (suc k) n =
     order 10 n (λ g. rw (in-large k n g, length-append (decimalIn k (n / 10))) (omega (arith, few k (n / 10)))) (λ g. rw (in-small k n g) (omega arith))
 
-pub length-decimal : (n : ℕ) → length (decimal n) ≤ 20
+pub length-decimal : (n : ℕ) → length (decimal n) ≤ max-digits
 unfolding decimal
-length-decimal n = few 20 n
+length-decimal n = few max-digits n
 
 -- two digits, and the last two
 pair : (n : ℕ) → 10 ≤ n → n < 100 → decimal n ≡ flatten (((48 + n / 10) ∷ []) ∷ ((48 + n % 10) ∷ []) ∷ [])

@@ -27,9 +27,12 @@ unfoldable pub decimalIn : ℕ → ℕ → List ℕ
 decimalIn zero n = []
 decimalIn (suc k) n = let front = decimalIn k (n / 10) in pick (ltb n 10) ((48 + n) ∷ []) (front ++ ((48 + n % 10) ∷ []))
 
--- A number of 64 bits has at most 20 digits.
+-- The digits of the largest number of 64 bits.
+abbrev pub max-digits : ℕ
+max-digits = 20
+
 unfoldable pub decimal : ℕ → List ℕ
-decimal n = decimalIn 20 n
+decimal n = decimalIn max-digits n
 
 -- a word and a number
 unfoldable pub labelled : List ℕ → ℕ → List ℕ

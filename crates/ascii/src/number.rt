@@ -5,6 +5,13 @@ ghost use Rattle.ascii.specs.Text.{decimal, ended, labelled};
 ghost use Rattle.wire.specs.Output.{Puts};
 use wire::output::copy;
 
+pub struct Decimal;
+
+impl Decimal {
+    // The digits of the largest number, 18446744073709551615.
+    pub const MAX_LEN: usize = 20;
+}
+
 // By recursion, so that each digit is worked out once and written in its place; two digits at a time.
 pub fn put_decimal(n: u64, out: &mut [u8]) -> usize
     requires { ⌜ length (decimal n) ≤ length (now out) ⌝ }
