@@ -1,13 +1,17 @@
 -- What the programs say on standard error, in ASCII: a label, an option that there is not, and why an envelope is refused.
-use Prim.Native.Nat.{ℕ}
+use Prim.Native.Nat.{ℕ, _+_, _*_}
 use mathlib.Core.List.{List, [], _∷_, flatten}
 use lib.Dec.{eqb}
 use Rattle.format.specs.Choice.{pick}
-use Rattle.ascii.specs.Text.{ascii, labelled, newline}
+use Rattle.ascii.specs.Text.{ascii, labelled, max-digits, newline}
 
 -- `NAME: SUBJECT`: the program, and what it speaks of
 unfoldable pub label : List ℕ → List ℕ → List ℕ
 label name subject = flatten (name ∷ ascii ": " ∷ subject ∷ [])
+
+-- how much stands between them
+abbrev pub between : ℕ
+between = 2
 
 -- `NAME: OPTION: unknown option, try --help`, a whole line
 unfoldable pub unknownOption : List ℕ → List ℕ → List ℕ
@@ -53,6 +57,15 @@ meaning error = flatten (ascii ": " ∷ words error ∷ (newline ∷ []) ∷ [])
 unfoldable pub refusal : ℕ → ℕ → ℕ → List ℕ
 refusal k error place = flatten (labelled (ascii ": envelope ") k ∷ errorAt error place ∷ meaning error ∷ [])
 
--- No refusal is longer, 20 digits being counted for each number.
+-- ---- how long they are: Examples has the texts
+
+-- without its numbers and words
+abbrev pub refusal-frame : ℕ
+refusal-frame = 26
+
+abbrev pub max-words : ℕ
+max-words = 55
+
+-- No refusal is longer: it has three numbers.
 abbrev pub max-refusal : ℕ
-max-refusal = 141
+max-refusal = refusal-frame + max-words + 3 * max-digits

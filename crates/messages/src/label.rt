@@ -5,6 +5,14 @@ ghost use Rattle.wire.specs.Output.{Puts};
 ghost use Rattle.messages.specs.Text.{label, unknownOption};
 use wire::output::copy;
 
+pub struct Label;
+
+impl Label {
+    const COLON: [u8; 2] = *b": ";
+    // What stands between the program's name and what it speaks of.
+    pub const BETWEEN: usize = Label::COLON.len();
+}
+
 // The program's name, and what it speaks of.
 pub fn put_label(name: &[u8], subject: &[u8], out: &mut [u8]) -> usize
     requires { ⌜ length (label (now name) (now subject)) ≤ length (now out) ⌝ }

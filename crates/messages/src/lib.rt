@@ -2,6 +2,7 @@
 mod label;
 mod refusal;
 
+pub use label::Label;
 pub use label::put_label;
 pub use label::put_unknown_option;
 pub use refusal::Refusal;

@@ -3,14 +3,20 @@ ghost use Prim.Native.Nat.{_≤_};
 ghost use lib.ListN.{length};
 ghost use Rattle.wire.specs.Output.{Puts};
 ghost use Rattle.messages.specs.Text.{errorAt, max-refusal, meaning, refusal, words};
+use ascii::Decimal;
 use ascii::put_labelled;
 use wire::output::copy;
 
 pub struct Refusal;
 
 impl Refusal {
+    // A refusal without its numbers and words, and the longest words.
+    const FRAME: [u8; 26] = *b": envelope : error  at : \n";
+
+    const LONGEST: [u8; 55] = *b"the length of the envelope is bad, or bytes are missing";
+
     // A buffer with so many bytes takes any refusal.
-    pub const MAX_LEN: usize = 141;
+    pub const MAX_LEN: usize = Refusal::FRAME.len() + Refusal::LONGEST.len() + 3 * Decimal::MAX_LEN;
 }
 
 // What an error's number means.
