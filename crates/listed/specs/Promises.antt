@@ -5,6 +5,7 @@ use Prim.Native.Nat.{ℕ}
 use lib.ListN.{length, replicate}
 use Rattle.format.specs.declared.bundle.Bundle.{Bundle}
 use Rattle.format.specs.declared.row.Row.{Row}
+use Rattle.format.specs.Kind as Kind
 use Rattle.format.specs.Limits.{max-rows}
 use Rattle.format.specs.Answer.{Answer, outcomeOf, stored}
 use Rattle.format.specs.Reading.{counts, lenient}
@@ -16,7 +17,7 @@ use Rattle.listed.specs.declared.text.Printed.{Printed}
 use Rattle.listed.specs.Text.{text, toldWithin, within}
 
 abbrev pub blank : Row
-blank = record { kind = 0; number = 0; start = 0 }
+blank = record { kind = Kind.null; number = 0; start = 0 }
 
 -- A table of 1,024 rows that a bundle was read into.
 pub record Tabled (bytes : List ℕ) (t : Table) : Type 0 where

@@ -1,5 +1,5 @@
 -- The text of `listing` (document 01, "Envelope and programs"), in ASCII: what is printed for one envelope.
-use Prim.Native.Nat.{ℕ, suc}
+use Prim.Native.Nat.{ℕ, suc, _+_, _*_}
 use mathlib.Core.List.{List, [], _∷_, flatten}
 use lib.Dec.{ltb}
 use Rattle.format.specs.declared.bundle.Bundle.{Bundle}
@@ -8,10 +8,11 @@ use Rattle.format.specs.declared.outcome.Outcome.{Outcome}
 use Rattle.format.specs.declared.outcome.Outcome.the-variants.{Good}
 use Rattle.format.specs.Choice.{pick}
 use Rattle.format.specs.Error.{codeOf}
+use Rattle.format.specs.Limits.{max-rows}
 use Rattle.format.specs.Answer.{Answer, failed, good}
 use Rattle.format.specs.Reading.{counts, lenient}
 use Rattle.format.specs.Rows.{rows}
-use Rattle.ascii.specs.Text.{ascii, ended, labelled, newline, space}
+use Rattle.ascii.specs.Text.{ascii, ended, labelled, max-digits, newline, space}
 
 -- ---- words
 
@@ -70,9 +71,20 @@ envelopeText k x = flatten (labelled envelope-word k ∷ labelled refused-word x
 
 -- ---- what is written into a buffer
 
--- No text is longer: numbers of 20 digits in the first line and in four columns of 1,024 rows.
+-- a first line without its numbers, of which it has three; Examples has the texts
+abbrev pub first-frame : ℕ
+first-frame = 21
+
+abbrev pub max-first : ℕ
+max-first = first-frame + 3 * max-digits
+
+-- a row: four numbers, with the byte after each
+abbrev pub max-row : ℕ
+max-row = 4 * (max-digits + 1)
+
+-- No text is longer.
 abbrev pub max-text : ℕ
-max-text = 86097
+max-text = max-first + max-rows * max-row
 
 -- Of a buffer with so many bytes: a text is written where any would fit, and else nothing.
 unfoldable pub within : ℕ → List ℕ → List ℕ

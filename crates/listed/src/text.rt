@@ -10,13 +10,21 @@ use crate::line::put_first;
 use crate::line::put_row;
 use crate::table::Table;
 use format::Outcome;
+use ascii::Decimal;
+use format::Row;
 use reader::Checked;
 
 pub struct Text;
 
 impl Text {
+    // A first line without its numbers; with ` rows ` and ` names ` it has as many bytes.
+    const FIRST: [u8; 21] = *b"bundle  refused  at \n";
+
+    const MAX_FIRST: usize = Text::FIRST.len() + 3 * Decimal::MAX_LEN;
+    // Four numbers, with the byte after each.
+    const MAX_ROW: usize = 4 * (Decimal::MAX_LEN + 1);
     // A buffer with so many bytes takes any text.
-    pub const MAX_LEN: usize = 86097;
+    pub const MAX_LEN: usize = Text::MAX_FIRST + Row::MAX_COUNT * Text::MAX_ROW;
 }
 
 // How many bytes were written, and whether the bundle reads.
