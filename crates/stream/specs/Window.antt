@@ -7,9 +7,13 @@ use lib.ListN.{length, take, drop}
 use Rattle.format.specs.Envelope.{max-envelope}
 use Rattle.stream.specs.declared.input.Window.{Window}
 
+-- What a read has space for beside the longest envelope.
+abbrev pub ahead : ℕ
+ahead = 65536
+
 -- How long an input's buffer is: `Stream::CAPACITY`.
 abbrev pub input-capacity : ℕ
-input-capacity = 65536 + max-envelope
+input-capacity = ahead + max-envelope
 
 -- It lies in a buffer of so many bytes.
 abbrev pub Within : Window → ℕ → Type 0

@@ -30,8 +30,10 @@ pub struct Stream {
 }
 
 impl Stream {
-    // An input's buffer: 64 KiB, and the longest envelope.
-    pub const CAPACITY: usize = 65536 + envelope::MAX_BYTES;
+    // What a read has space for beside the longest envelope: 64 KiB.
+    const AHEAD: usize = 65536;
+    // An input's buffer.
+    pub const CAPACITY: usize = Stream::AHEAD + envelope::MAX_BYTES;
 
     // That buffer: it takes any envelope, so that a read has space as long as one is cut.
     pub fn buffer() -> [u8; Stream::CAPACITY]
