@@ -3,9 +3,9 @@ use mathlib.Core.Path.{_≡_}
 use mathlib.Core.Logic.{_⊎_}
 use Prim.Native.Nat.{ℕ, suc, _+_, _-_}
 use mathlib.Core.Bool.{Bool, true, false}
-use lib.Dec.{ltb}
+use lib.Dec.{ltb, eqb}
 use Rattle.format.specs.Choice.{_||_, pick}
-use Rattle.messages.specs.Text.{max-refusal}
+use Rattle.messages.specs.Text.{max-refusal, between}
 use Rattle.stream.specs.declared.state.Refusal.{Refusal}
 use Rattle.stream.specs.declared.state.Refusal.the-variants.{First, None}
 use Rattle.stream.specs.declared.state.Stream.{Stream}
@@ -75,7 +75,7 @@ max-path = 4096
 
 -- The longest label, and how long a line's buffer is, `Line::CAPACITY`: a refusal stands behind the label.
 abbrev pub max-label : ℕ
-max-label = max-name + 2 + max-path
+max-label = max-name + between + max-path
 
 abbrev pub line-capacity : ℕ
 line-capacity = max-label + max-refusal

@@ -9,6 +9,7 @@ ghost use Rattle.programs.specs.Exit.{Serves, Serving, inputsOf, line-ca
 use libc::PATH_MAX;
 use libc::STDERR_FILENO;
 use libc::STDIN_FILENO;
+use messages::Label;
 use messages::put_label;
 use messages::put_refusal;
 use runner::Program;
@@ -24,7 +25,10 @@ impl Line {
     pub const MAX_NAME: usize = 16;
 
     // A label of any file, and a refusal behind it.
-    pub const CAPACITY: usize = Line::MAX_NAME + 2 + PATH_MAX + messages::Refusal::MAX_LEN;
+    pub const CAPACITY: usize = Line::MAX_NAME
+        + Label::BETWEEN
+        + PATH_MAX
+        + messages::Refusal::MAX_LEN;
 
     // A buffer for it.
     pub fn new() -> [u8; Line::CAPACITY]
