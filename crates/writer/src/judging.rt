@@ -34,7 +34,7 @@ pub fn judge(rows: &[Row], text: &[u8], plan: &mut [u16; Plan::SIZE], n: usize) 
     requires { ⌜ (n ≤ length (now rows)) × (n ≤ max-rows) × (0 < n → length (now text) ≤ max-bytes) × (length (now plan) ≡ plan-size) ⌝ }
     ensures { λ r. ⌜ Verdict (now (text .entry)) (now (plan .exit)) (take n (now (rows .entry))) r ⌝ }
 {
-    let mut entries = [0u64; SymbolTable::MAX_ENTRIES];
+    let mut entries = SymbolTable::new();
     let mut links = [0u16; Links::SIZE];
     let mut stack = [0u64; Bundle::MAX_DEPTH];
     let mut s = begin(n);
