@@ -82,6 +82,7 @@ pub fn plain_len(kind: u8, number: u64) -> usize
     if Row::BYTES <= kind {
         return header_len(code_of(kind), number);
     }
+    // the lead byte, and the float
     if kind == Row::FLOAT32 {
         return 5;
     }
