@@ -40,6 +40,9 @@ module _ {o : Options} {bs : List ℕ} {u : State} where
         let n : length (u .found) ≡ length (s .found) + length xs = ap length e ∙ length-append (s .found) xs in
         (λ l. omega (arith, m (omega (arith, p .offset))), λ l. order (length bs) (w .at) (λ k. let z = ap (λ (v : State). length (v .found)) (at-end k .0) in absurd (omega arith)) (λ k. k))
 
+    at-last : length (s .found) ≡ length (u .found) → w .at ≡ length bs
+    at-last e = order (length bs) (w .at) (λ l. at-end l .1) (λ l. let k = still-left .0 l in absurd (omega arith))
+
 pub walk-law : (o : Options) (bs : List ℕ) {u : State} → reading o bs ≡ good u → WalkLaw o bs u
 unfolding start entriesOf
 walk-law o bs {u} r = record { first = first; row = next-row; left = still-left; last = at-end; calls = calls }
@@ -50,9 +53,9 @@ walk-law o bs {u} r = record { first = first; row = next-row; left = still-left;
         record { short = short; reads = reads-run reads; offset = refl; within = omega arith; size = size; few = omega arith; entries = refl }
 
     calls : {i : ℕ} {table : List ℕ} {w : Walked} → Calls bs i table w → Called o bs u i table w
-    calls (none {table = table} size) = record { s = start; walks = first table size; count = refl; row = λ k e. absurd (omega arith) }
+    calls (none {table = table} size) = record { s = start; walks = first table size; count = refl; row = λ k e. absurd (omega arith); end = λ e. at-last (first table size) e }
     calls (more {i = i} c n) =
         let q = calls c in
         let t = n o u (q .s) (q .walks) in
         let m : length (t .next .found) ≡ i + 1 = ap length (t .found) ∙ length-append (q .s .found) (t .x ∷ []) ∙ ap (λ (k : ℕ). k + 1) (q .count) in
-        record { s = t .next; walks = t .walks; count = m; row = λ k e. let z : length (q .s .found) ≡ k = omega (arith, q .count) in rw z at (next-row t) }
+        record { s = t .next; walks = t .walks; count = m; row = λ k e. let z : length (q .s .found) ≡ k = omega (arith, q .count) in rw z at (next-row t); end = λ e. at-last (t .walks) (m ∙ e) }

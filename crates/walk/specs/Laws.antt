@@ -16,16 +16,17 @@ pub data Calls (bs : List ℕ) : ℕ → List ℕ → Walked → Type 0 where
   none : {table : List ℕ} → length table ≡ max-entries → Calls bs 0 table begin
   more : {i : ℕ} {table table′ : List ℕ} {w r : Walked} → Calls bs i table w → Nexts bs table w table′ r → Calls bs (i + 1) table′ r
 
--- Reading has come to a state with i rows, the walk stands there, and its row is the i-th.
+-- Reading has come to a state with i rows and the walk stands there; its row is the i-th, and after the last it stands at the end.
 pub record Called (o : Options) (bs : List ℕ) (u : State) (i : ℕ) (table : List ℕ) (w : Walked) : Type 0 where
   pub s : State
   pub walks : Walks o bs u s table w
   pub count : length (s .found) ≡ i
   pub row : (k : ℕ) → i ≡ k + 1 → getElem? (map rowOf (u .found)) k ≡ some (w .row)
+  pub end : i ≡ length (u .found) → w .at ≡ length bs
 
 -- Of a bundle that reads as u.
 pub record WalkLaw (o : Options) (bs : List ℕ) (u : State) : Type 0 where
-  -- what a loop keeps: it holds before the first item, whatever stands in the table;
+  -- What a loop keeps: it holds before the first item, whatever stands in the table;
   pub first : (table : List ℕ) → length table ≡ max-entries → Walks o bs u start table begin
   -- `next` leads from one item to the next, whose row is the next of the bundle (`Onward`);
   pub row : {s : State} {table : List ℕ} {w r : Walked} → Onward o bs u s table w r → getElem? (map rowOf (u .found)) (length (s .found)) ≡ some (r .row)
@@ -33,5 +34,5 @@ pub record WalkLaw (o : Options) (bs : List ℕ) (u : State) : Type 0 where
   pub left : {s : State} {table : List ℕ} {w : Walked} → Walks o bs u s table w → (w .at < length bs) ↔ (length (s .found) < length (u .found))
   -- and where none is left all is read, and the walk stands at the end.
   pub last : {s : State} {table : List ℕ} {w : Walked} → Walks o bs u s table w → length bs ≤ w .at → (s ≡ u) × (w .at ≡ length bs)
-  -- so after i calls it has the i-th row
+  -- So after i calls it has the i-th row.
   pub calls : {i : ℕ} {table : List ℕ} {w : Walked} → Calls bs i table w → Called o bs u i table w

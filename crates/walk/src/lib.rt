@@ -102,12 +102,8 @@ fn headed(table: &mut [u64; SymbolTable::MAX_ENTRIES], w: Walked, h: Header) -> 
     let code = h.code;
     // most items first
     if is_integer(code) {
-        return fixed(
-            code + Header::KIND_SHIFT,
-            number_of(code, h.payload),
-            next,
-            entries,
-        );
+        let n = number_of(code, h.payload);
+        return fixed(code + Header::KIND_SHIFT, n, next, entries);
     }
     if Header::REFERENCE <= code {
         return Walked {
@@ -117,13 +113,8 @@ fn headed(table: &mut [u64; SymbolTable::MAX_ENTRIES], w: Walked, h: Header) -> 
         };
     }
     if Header::SYMBOL <= code {
-        return name(
-            table,
-            code + Header::KIND_SHIFT,
-            ByteLength::of(h),
-            next,
-            entries,
-        );
+        let len = ByteLength::of(h);
+        return name(table, code + Header::KIND_SHIFT, len, next, entries);
     }
     if code == Header::STRING {
         return content(Row::STRING, ByteLength::of(h), next, entries);
@@ -145,7 +136,7 @@ pub fn next(s: &[u8], table: &mut [u64; SymbolTable::MAX_ENTRIES], w: Walked) ->
     ensures { λ r. ⌜ Nexts (now (s .entry)) (now (table .entry)) w (now (table .exit)) r ⌝ }
 {
     match wire::header::header_at(s, w.at) {
-        // not in a bundle that reads; w itself would carry the padding of its row round a loop, which costs as much as all else
+        // not in a bundle that reads; w itself here would carry the padding of its row round a loop, which costs as much as all else
         Head::Cut => Walked::new(),
         Head::Whole(h) => headed(table, w, h),
     }

@@ -18,8 +18,8 @@ is-integer-requires c κs = search needs
 
 add-fixed : tie.Need-add-fixed
 add-fixed c =
-    let q = c .before .before .before .before in
-    let w = code-within 1 2 (q .args .h .code) (sym (c .before .is-integer .ensures) ∙ c .if1 .taken) in omega (arith, w .1)
+    let q = c .before .before .before .before .before in
+    let w = code-within 1 2 (q .args .h .code) (sym (c .before .before .is-integer .ensures) ∙ c .before .if1 .taken) in omega (arith, w .1)
 
 number-of-requires : tie.Need-number-of-requires
 number-of-requires c κs = search needs
@@ -55,13 +55,13 @@ name-requires c κs =
     let f = form-text (q .args .h) (omega (arith, c .before .before .if3 .taken)) (omega (arith, c .before .before .before .if2 .left)) in
     let p = q .pre .1 .walks in
     let e = q .pre .2 in
-    (omega (arith, c .before .before .if3 .taken), omega (arith, c .before .before .before .if2 .left), near p e, rw (c .of .ensures) (content-small p e f), name-few p e f (omega (arith, c .before .before .if3 .taken)))
+    (omega (arith, c .before .before .if3 .taken), omega (arith, c .before .before .before .if2 .left), near p e, rw (c .before .of .ensures) (content-small p e f), name-few p e f (omega (arith, c .before .before .if3 .taken)))
 
 returns-3 : tie.Need-returns-3
 returns-3 c =
     let q = c .before .before .before .before .before .before .before .before .before in
     let f = form-text (q .args .h) (omega (arith, c .before .before .before .if3 .taken)) (omega (arith, c .before .before .before .before .if2 .left)) in
-    λ bs e o u s p. name-on p e f (omega (arith, c .before .before .before .if3 .taken)) (omega (arith, c .before .before .before .before .if2 .left)) (c .before .of .ensures) (c .name .ensures .1) (c .name .ensures .0)
+    λ bs e o u s p. name-on p e f (omega (arith, c .before .before .before .if3 .taken)) (omega (arith, c .before .before .before .before .if2 .left)) (c .before .before .of .ensures) (c .name .ensures .1) (c .name .ensures .0)
 
 of-requires-2 : tie.Need-of-requires-2
 of-requires-2 c κs = search needs
@@ -122,14 +122,14 @@ headed-spec =
     (tie.spec
     add-next
     is-integer-requires
-    add-fixed
     number-of-requires
+    add-fixed
     fixed-requires
     returns
     referred-requires
     returns-2
-    add-name
     of-requires
+    add-name
     name-requires
     returns-3
     of-requires-2
