@@ -33,6 +33,8 @@ use wire::rules::key_after_key;
 
 // What one item is, with the offset of the next.
 pub enum Out {
+    // No `Failure`: its place is the item's, which the caller has. With one, tried unproved, checking names took 1.5 times
+    // as long and one line 1.2 times (three runs of the bench).
     Bad(Error),
     // a value that makes no entry
     Value(usize),

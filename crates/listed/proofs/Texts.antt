@@ -14,7 +14,7 @@ use Rattle.format.specs.declared.outcome.Outcome.the-variants.{Good}
 use Rattle.format.specs.Error.{codeOf}
 use Rattle.format.specs.Answer.{Answer, failed, good, outcomeOf, stored, then}
 use Rattle.format.specs.Reading.{State, counts, countsOf, lenient, reading}
-use Rattle.format.specs.Rows.{rowOf, rows}
+use Rattle.format.specs.Rows.{blank, rowOf, rows}
 use Rattle.format.proofs.Tests.{ltb-no, ltb-yes, pick-no, pick-yes}
 use Rattle.format.proofs.Lists.{length-items}
 use Rattle.format.proofs.Bounds.{reading-within}
@@ -25,7 +25,7 @@ use Rattle.ascii.proofs.Lengths.{length-ended, length-flatten, length-four, len
 use Rattle.ascii.proofs.Writing.{Stage, first-fits, first, ends}
 use Rattle.listed.specs.declared.table.Table.{Table}
 use Rattle.listed.specs.Text.{at-word, bundle-word, bundleLine, envelope-word, envelopeText, firstLine, max-text, names-word, refused-word, rowLine, rowLines, rows-word, rowsOf, text, toldWithin, within}
-use Rattle.listed.specs.Promises.{Prints, Tabled, blank, printedOf}
+use Rattle.listed.specs.Promises.{Prints, Tabled, printedOf}
 
 -- ---- lengths
 

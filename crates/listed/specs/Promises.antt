@@ -5,19 +5,15 @@ use Prim.Native.Nat.{ℕ}
 use lib.ListN.{length, replicate}
 use Rattle.format.specs.declared.bundle.Bundle.{Bundle}
 use Rattle.format.specs.declared.row.Row.{Row}
-use Rattle.format.specs.Kind as Kind
 use Rattle.format.specs.Limits.{max-rows}
 use Rattle.format.specs.Answer.{Answer, outcomeOf, stored}
 use Rattle.format.specs.Reading.{counts, lenient}
-use Rattle.format.specs.Rows.{rows}
+use Rattle.format.specs.Rows.{blank, rows}
 use Rattle.reader.specs.Answers.{answerOf}
 use Rattle.wire.specs.Output.{Puts}
 use Rattle.listed.specs.declared.table.Table.{Table}
 use Rattle.listed.specs.declared.text.Printed.{Printed}
 use Rattle.listed.specs.Text.{text, toldWithin, within}
-
-abbrev pub blank : Row
-blank = record { kind = Kind.null; number = 0; start = 0 }
 
 -- A table of 1,024 rows that a bundle was read into.
 pub record Tabled (bytes : List ℕ) (t : Table) : Type 0 where

@@ -20,7 +20,8 @@ pub struct State {
     pub names: usize,
     // bytes of the canonical encoding
     pub size: usize,
-    // 0, or the number of the error
+    // 0, or the number of the error. No `Outcome`: with one, tried unproved, writing boards took 1.08 to 1.12 times as
+    // long (three runs of the bench).
     pub error: usize,
 }
 

@@ -3,17 +3,16 @@ use Prim.Native.Nat.{ℕ, _≤_, _<_}
 use mathlib.Core.Path.{_≡_}
 use mathlib.Core.List.{List, [], _∷_, _++_}
 use lib.ListN.{length, drop}
-use Rattle.format.specs.Kind as Kind
 use Rattle.format.specs.Limits.{max-bytes, max-entries}
 use Rattle.format.specs.Answer.{good}
 use Rattle.format.specs.Reading.{Found, Options, State, item, run}
-use Rattle.format.specs.Rows.{rowOf}
+use Rattle.format.specs.Rows.{blank, rowOf}
 use Rattle.symbols.specs.Entries.{entriesOf}
 use Rattle.walk.specs.declared.Walked.{Walked}
 
 -- Before the first item.
 abbrev pub begin : Walked
-begin = record { at = 0; entries = 0; row = record { kind = Kind.null; number = 0; start = 0 } }
+begin = record { at = 0; entries = 0; row = blank }
 
 -- Reading the bundle has come to the state s and goes on to u. The walk stands where s does, and its table has the entries of s.
 pub record Walks (o : Options) (bs : List ℕ) (u s : State) (table : List ℕ) (w : Walked) : Type 0 where

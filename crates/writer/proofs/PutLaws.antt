@@ -23,7 +23,7 @@ use Rattle.encoder.specs.Output.{PutsAt}
 use Rattle.encoder.specs.Plan.{Planned, encodedAt}
 use Rattle.encoder.proofs.PutLaws.{at-seam, one-fits, puts-more}
 use Rattle.writer.specs.Putting.{Putting}
-use Rattle.writer.proofs.Loop.{blank}
+use Rattle.format.specs.Rows.{blank}
 
 -- row i, after those before it
 module _ (text plan : List ℕ) (rows : List Row) (n capacity : ℕ) (p : Putting text plan (take n rows) capacity) (le : n ≤ length rows) (i : ℕ) (lt : i < n) where

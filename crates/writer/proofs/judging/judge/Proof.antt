@@ -56,7 +56,7 @@ use Rattle.writer.specs.Verdict.{begun, Judging, Verdict}
 use Rattle.format.proofs.WalkRest.{after}
 use Rattle.format.proofs.WalkArray.{repeat-is, array-in, array-out}
 use Rattle.format.proofs.WalkBorrow.{Ref, borrows, gives-back, passes, takes-back}
-use Rattle.writer.proofs.Loop.{blank}
+use Rattle.format.specs.Rows.{blank}
 use Rattle.writer.proofs.Loop.{judging-start, judging-ready, judging-within, judging-on, judging-off}
 use Rattle.rows.proofs.state.State as S
 use Rattle.rows.proofs.state.State.Laws as S′

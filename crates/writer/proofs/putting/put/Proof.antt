@@ -62,7 +62,7 @@ use Rattle.encoder.specs.Plan.{encodedAt}
 use Rattle.writer.specs.Putting.{Putting}
 use Rattle.format.proofs.WalkRest.{after}
 use Rattle.format.proofs.WalkSlice.{Aside, borrows-again, comes-back}
-use Rattle.writer.proofs.Loop.{blank}
+use Rattle.format.specs.Rows.{blank}
 use Rattle.writer.proofs.PutLaws.{next-asks, put-all, put-more, put-none}
 use Rattle.writer.proofs.putting.put_next as put-next
 use Rattle.writer.proofs.putting.put_next.Symbol as put-next-def

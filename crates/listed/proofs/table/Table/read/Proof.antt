@@ -62,7 +62,8 @@ use Rattle.reader.proofs.read.Symbol as reads-def
 use Rattle.reader.proofs.read.Symbol.{name as #reads}
 use Rattle.reader.proofs.read.Met as reads-thm
 use Rattle.listed.specs.declared.table.Table.{Table}
-use Rattle.listed.specs.Promises.{blank, Tabled}
+use Rattle.format.specs.Rows.{blank}
+use Rattle.listed.specs.Promises.{Tabled}
 use Rattle.listed.proofs.WalkLent.{slice-in, array-cell, big-lit, as-field}
 use Rattle.listed.proofs.table.Table as Z
 use Rattle.listed.proofs.table.Table.Laws as Z′
