@@ -67,18 +67,22 @@ fn answers_while_the_input_stays_open() {
     }
 }
 
-/// A length that is refused ends the run, though the input stays open.
+/// The run over an input ends, though that stays open.
+fn assert_ends(program: &Program, input: &[u8]) {
+    let mut run = program.run();
+    let mut pipe = run.take_input();
+    pipe.write_all(input).expect("a program that reads");
+    program.assert_prints(&run.finish(), input);
+    drop(pipe);
+}
+
+/// A length that is refused ends the run.
 #[test]
 fn ends_at_a_refused_envelope() {
     let message = envelope(b"\x00");
     for refused in [&b"\x00\x00"[..], b"\x40\x02", b"\x00\x01\x02"] {
         for program in &PROGRAMS {
-            let input = [&message, refused].concat();
-            let mut run = program.run();
-            let mut pipe = run.take_input();
-            pipe.write_all(&input).expect("a program that reads");
-            program.assert_prints(&run.finish(), &input);
-            drop(pipe);
+            assert_ends(program, &[&message, refused].concat());
         }
     }
 }
@@ -86,12 +90,7 @@ fn ends_at_a_refused_envelope() {
 /// A bundle that is refused ends `tidy`, and what came before it is handed on.
 #[test]
 fn tidy_ends_at_a_refused_bundle() {
-    let input = [envelope(b"\x38\x00"), envelope(b"\xE0")].concat();
-    let mut run = TIDY.run();
-    let mut pipe = run.take_input();
-    pipe.write_all(&input).expect("a program that reads");
-    TIDY.assert_prints(&run.finish(), &input);
-    drop(pipe);
+    assert_ends(&TIDY, &[envelope(b"\x38\x00"), envelope(b"\xE0")].concat());
 }
 
 #[test]
