@@ -8,6 +8,7 @@ use Prim.Native.Nat.{ℕ, _+_, _≤_, _<_, zero-le}
 use native.Mathlib.Numerals.{add-one}
 use native.Mathlib.Omega.{arith}
 use lib.ListN.{length, take, getD, set, getElem?, replicate, length-set, length-append, length-replicate}
+use lib.Dec.{eqb}
 use lib.Seq.{getD-set-same, getD-set-other, take-append-le, take-append-seam, take-suc-set}
 use Rattle.format.specs.Header.{header}
 use Rattle.format.specs.Item.{Item, isName}
@@ -141,5 +142,5 @@ pub known-text : {slots : ℕ} {a b es links plan : List ℕ} {xs : List Item} {
 unfolding sameName
 known-text {xs = xs} m x i e =
     let w = index-at x (namesFrom [] xs) e in
-    let c : x .content ≡ w .entry .content = same-true _ _ (and-true _ _ (w .alike) .1) in
+    let c : x .content ≡ w .entry .content = same-true _ _ (and-true (eqb (x .kind) (w .entry .kind)) _ (w .alike) .1) in
     rw c (m .texts i (w .entry) (w .at))

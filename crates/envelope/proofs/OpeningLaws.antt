@@ -9,7 +9,7 @@ use lib.Seq.{length-take-le}
 use Rattle.format.specs.declared.error.Error.{Error}
 use Rattle.format.specs.declared.failure.Failure.{Failure}
 use Rattle.format.specs.declared.error.Error.the-variants.{InvalidEnvelope, UnsupportedVersion}
-use Rattle.format.specs.Choice.{pick, _||_}
+use Rattle.format.specs.Choice.{pick}
 use Rattle.format.specs.Limits.{max-bytes}
 use Rattle.format.specs.Answer.{Answer, counted, fail, failed, good, then}
 use Rattle.format.specs.Header.{bigEndian}
@@ -26,31 +26,31 @@ length-field (a ∷ b ∷ bs) l = omega arith
 
 module _ (bs : List ℕ) where
   pub no-length : length bs < 2 → opening bs ≡ fail InvalidEnvelope 0
-  unfolding opening pick _||_
+  unfolding opening pick
   no-length l = rw (ltb-yes l)
 
   module _ (l : 2 ≤ length bs) where
     pub counts-nothing : lengthField bs < 1 → opening bs ≡ fail InvalidEnvelope 0
-    unfolding opening lengthField pick _||_
+    unfolding opening lengthField pick
     counts-nothing z = rw (ltb-no l, ltb-yes z)
 
     module _ (p : 1 ≤ lengthField bs) where
       pub too-long : 1 + max-bytes < lengthField bs → opening bs ≡ fail InvalidEnvelope 0
-      unfolding opening lengthField pick _||_
+      unfolding opening lengthField pick
       too-long m = rw (ltb-no l, ltb-no p, ltb-yes m)
 
       module _ (m : lengthField bs ≤ 1 + max-bytes) where
         pub too-few : length bs < 2 + lengthField bs → opening bs ≡ fail InvalidEnvelope 0
-        unfolding opening lengthField pick _||_
+        unfolding opening lengthField pick
         too-few f = rw (ltb-no l, ltb-no p, ltb-no m, ltb-yes f)
 
         module _ (f : 2 + lengthField bs ≤ length bs) where
           pub other-version : getD bs 2 0 ≢ version → opening bs ≡ fail UnsupportedVersion 0
-          unfolding opening lengthField pick _||_
+          unfolding opening lengthField pick
           other-version v = rw (ltb-no l, ltb-no p, ltb-no m, ltb-no f, eqb-no v)
 
           pub opened : getD bs 2 0 ≡ version → opening bs ≡ good (take (lengthField bs - 1) (drop overhead bs))
-          unfolding opening lengthField pick _||_
+          unfolding opening lengthField pick
           opened v = rw (ltb-no l, ltb-no p, ltb-no m, ltb-no f, eqb-yes v)
 
 -- What holds of both errors, and of each part that lies in the bytes, holds of opening them.

@@ -5,13 +5,13 @@ use Prim.Native.Nat.{ℕ, zero, suc, _+_, _-_, _*_, _^_, _≤_, _<_, min}
 use native.Mathlib.Nat.{add-zero, le-refl, le-trans}
 use native.Mathlib.Numerals.{one-add}
 use native.Mathlib.Omega.{arith}
-use mathlib.Core.Bool.{true, false, not}
+use mathlib.Core.Bool.{true, false, not, _&&_}
 use mathlib.Core.List.{List, [], _∷_, _++_, append-assoc, append-nil}
 use mathlib.Core.Option.{some}
 use lib.ListN.{length, take, drop, length-append, take-append-drop}
 use lib.Seq.{drop-drop, length-take-le}
 use lib.Dec.{ltb}
-use Rattle.format.specs.Choice.{_&&_, pick}
+use Rattle.format.specs.Choice.{pick}
 use Rattle.format.specs.Limits.{max-entries, max-rows}
 use Rattle.format.specs.Answer.{good, then}
 use Rattle.format.specs.Header.{Header, digits, following, header, headerOf, isNegativeAlias, shift}
@@ -108,7 +108,7 @@ module _ {o : Options} {s : State} (lax : o .strict ≡ false) (rest : List ℕ)
       (took-held hs rest _ (held (c + 5) bs) (l .read (bs ++ rest)) refl (form-held c (l .sz) (length bs) (length hs) f b (l .sized)) refl refl (and-no-left _ lax) u (λ z. clash z lax) e m v)
 
   takes : {x : Item} {bs : List ℕ} {fs : List Item} → Encodes (itemsOf (s .entries)) x bs fs → May (s .place) x → Vacant o s → length fs ≤ max-entries → Took o s x (bs ++ rest) rest fs
-  unfolding full following formOf pick grown isName isText _&&_ digits
+  unfolding full following formOf pick grown isName isText digits
   takes (wire.simple {k} l) m v n =
       let f = fit-plain k 0 (omega arith) (omega arith) (λ _. refl) (λ q. absurd (omega arith)) (omega arith) (λ q. absurd (omega arith)) in
       subst (λ (bs : List ℕ). Took o s (plain k 0) (bs ++ rest) rest (itemsOf (s .entries))) (full-simple k l) (took-small (plain k 0) rest (omega arith) f m v)
@@ -218,7 +218,7 @@ form-piece : {bs : List ℕ} {h : Header} (f : Form) → FormIs h f → Headed b
     → isContent f && ltb (length (drop (h .size) bs)) (h .payload) ≡ false
     → isContent f && isText (x .item) && not (utf8 (x .item .content)) ≡ false
     → Piece (itemsOf es) (x .item) bs (drop (h .size + pick (isContent f) (h .payload) 0) bs) (pick (isContent f) (grown (x .item) (itemsOf es)) (itemsOf es))
-unfolding itemOf isContent isText _&&_ pick
+unfolding itemOf isContent isText pick
 form-piece {bs} {h} (fixed k n) i d at es x e w t =
     subst (λ (y : Found). Piece (itemsOf es) (y .item) bs (drop (h .size + 0) bs) (itemsOf es)) (some-inj e)
     (record { front = headerBytes (h .code) (h .sz) (h .payload); split = rw (add-zero (h .size)) (d .bytes); encodes = fixed-encodes i d })

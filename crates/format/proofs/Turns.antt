@@ -135,7 +135,7 @@ module _ {o : Options} {s : List ℕ} {a u : State} {h : Header} (w : Turn o s a
     -- what is no name makes no entry
     pub content-kept : isName (w .y .item) ≡ false → w .next .entries ≡ a .entries
     unfolding after
-    content-kept n = ap (λ (v : State). v .entries) (w .goes) ∙ pick-no _ _ (and-no-right _ n)
+    content-kept n = ap (λ (v : State). v .entries) (w .goes) ∙ pick-no _ _ (and-no-right (isContent (formOf h)) n)
 
     -- a name in full makes one
     module _ (n : isName (w .y .item) ≡ true) where

@@ -3,7 +3,7 @@ use mathlib.Core.Path.{_≡_, refl}
 use mathlib.Core.List.{[], _∷_}
 use lib.ListN.{replicate}
 use Rattle.format.specs.declared.error.Error.the-variants.{InvalidEnvelope, OutputTooLong, TooLong, UnsupportedVersion}
-use Rattle.format.specs.Choice.{_||_, pick}
+use Rattle.format.specs.Choice.{pick}
 use Rattle.format.specs.Answer.{fail, good}
 use Rattle.format.specs.Header.{bigEndian, digits}
 use Rattle.format.specs.Envelope.{closing, envelope, opening}
@@ -32,5 +32,5 @@ EnvelopeExamples =
     × (closing (0xff ∷ []) 3 ≡ fail OutputTooLong 0)
 
 pub envelope-examples : EnvelopeExamples
-unfolding pick _||_ fail bigEndian digits opening envelope closing
+unfolding pick fail bigEndian digits opening envelope closing
 envelope-examples = (refl, refl, refl, refl, refl, refl, refl, refl, refl, refl, refl, refl, refl, refl, refl)

@@ -5,7 +5,7 @@ use mathlib.Core.List.{List, [], _∷_, _++_}
 use lib.ListN.{replicate}
 use Rattle.format.specs.declared.error.Error.{Error}
 use Rattle.format.specs.declared.error.Error.the-variants.{InvalidUtf8, OutputTooLong, TooManyEntries, TooManyRows, Truncated, UndefinedReference}
-use Rattle.format.specs.Choice.{_&&_, _||_, pick}
+use Rattle.format.specs.Choice.{pick}
 use Rattle.format.specs.Answer.{Failure, fail, failed, first, good, onSide, rule, then, unless}
 use Rattle.format.specs.Header.{bigEndian, digits, following, header, headerOf, isLong, isNegativeAlias, payloadOf, shift, width, widthFrom}
 use Rattle.format.specs.Utf8.{goodAfter, leads, utf8, within}
@@ -54,5 +54,5 @@ JoiningExamples =
     × (canonicalizing bad-string 99 ≡ failed (refused InvalidUtf8 6 0))
 
 pub joining-examples : JoiningExamples
-unfolding pick _&&_ _||_ rule first fail unless then onSide bigEndian digits shift following payloadOf headerOf widthFrom width header isLong isNegativeAlias within leads goodAfter utf8 isText isName isKey isContainer same sameName indexFrom index isSome added noted namesFrom top ended moved due itemsOf start formOf isContent itemOf isMissing orNull itemRules after headed item ending run reading items full named encoded canonicalFrom canonical fitted together joining canonicalizing
+unfolding pick rule first fail unless then onSide bigEndian digits shift following payloadOf headerOf widthFrom width header isLong isNegativeAlias within leads goodAfter utf8 isText isName isKey isContainer same sameName indexFrom index isSome added noted namesFrom top ended moved due itemsOf start formOf isContent itemOf isMissing orNull itemRules after headed item ending run reading items full named encoded canonicalFrom canonical fitted together joining canonicalizing
 joining-examples = (refl, refl, refl, refl, refl, refl, refl, refl, refl, refl, refl, refl, refl)

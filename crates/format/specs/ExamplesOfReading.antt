@@ -6,7 +6,7 @@ use lib.ListN.{replicate}
 use Rattle.format.specs.declared.row.Row.{Row}
 use Rattle.format.specs.declared.error.Mode.the-variants.{Lenient, Strict}
 use Rattle.format.specs.declared.error.Error.the-variants.{InvalidUtf8, NotCanonical, TooDeep, TooLong, TooManyEntries, TooManyRows, Truncated, UndefinedReference, UnexpectedKey}
-use Rattle.format.specs.Choice.{_&&_, _||_, pick}
+use Rattle.format.specs.Choice.{pick}
 use Rattle.format.specs.Limits.{max-bytes}
 use Rattle.format.specs.Answer.{fail, first, good, rule, then, unless}
 use Rattle.format.specs.Kind as Kind
@@ -214,7 +214,7 @@ abbrev pub ReadingExamples : Type 0
 ReadingExamples = Messages × Kinds × Refusals × Orders
 
 pub reading-examples : ReadingExamples
-unfolding pick _&&_ _||_ rule first fail unless then bigEndian digits shift following payloadOf headerOf widthFrom width header isLong isNegativeAlias within leads goodAfter utf8 isText isName isKey isContainer same sameName indexFrom index isSome added noted top ended moved due itemsOf start formOf isContent itemOf isMissing orNull itemRules after headed item ending run reading items countsOf counts rowOf rows full named encoded canonicalFrom canonical fitted canonicalizing
+unfolding pick rule first fail unless then bigEndian digits shift following payloadOf headerOf widthFrom width header isLong isNegativeAlias within leads goodAfter utf8 isText isName isKey isContainer same sameName indexFrom index isSome added noted top ended moved due itemsOf start formOf isContent itemOf isMissing orNull itemRules after headed item ending run reading items countsOf counts rowOf rows full named encoded canonicalFrom canonical fitted canonicalizing
 reading-examples = (
   (refl, refl, refl, refl, refl, refl, refl, refl, refl, refl, refl, refl, refl, refl, refl, refl),
   (refl, refl, refl, refl, refl, refl, refl, refl, refl, refl, refl, refl),

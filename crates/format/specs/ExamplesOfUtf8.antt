@@ -5,7 +5,7 @@ use mathlib.Core.Bool.{Bool, true, false}
 use mathlib.Core.List.{List, [], _∷_, map}
 use lib.ListN.{replicate}
 use lib.Dec.{eqb}
-use Rattle.format.specs.Choice.{_&&_, pick}
+use Rattle.format.specs.Choice.{pick}
 use Rattle.format.specs.Utf8.{goodAfter, leads, utf8, within}
 use Rattle.format.specs.Samples.{upward}
 
@@ -70,7 +70,7 @@ abbrev pub Utf8Examples : Type 0
 Utf8Examples = Leads × Continuations × Texts
 
 pub utf8-examples : Utf8Examples
-unfolding pick _&&_ within leads goodAfter utf8
+unfolding pick within leads goodAfter utf8
 utf8-examples = (
   (refl, refl, refl, refl, refl, refl),
   (refl, refl, refl),

@@ -5,7 +5,7 @@ use mathlib.Core.List.{List, [], _∷_, _++_}
 use lib.ListN.{replicate}
 use Rattle.format.specs.declared.row.Row.{Row}
 use Rattle.format.specs.declared.error.Error.the-variants.{InvalidRow, InvalidUtf8, OutputTooLong, TooDeep, TooLong, TooManyEntries, TooManyRows, Truncated, UnexpectedKey}
-use Rattle.format.specs.Choice.{_&&_, _||_, pick}
+use Rattle.format.specs.Choice.{pick}
 use Rattle.format.specs.Answer.{counted, fail, first, good, rule, then, unless}
 use Rattle.format.specs.Kind as Kind
 use Rattle.format.specs.Header.{digits, following, header, shift, width, widthFrom}
@@ -151,7 +151,7 @@ abbrev pub WritingExamples : Type 0
 WritingExamples = Results × Refusals × Orders
 
 pub writing-examples : WritingExamples
-unfolding pick _&&_ _||_ rule first fail unless then counted digits shift following widthFrom width header within leads goodAfter utf8 hasContent isText isName isKey isContainer same sameName indexFrom index isSome added noted top ended moved due full named encoded canonicalFrom canonical fitted contentOf itemAt isBad begin withItem rowRules judge writing
+unfolding pick rule first fail unless then counted digits shift following widthFrom width header within leads goodAfter utf8 hasContent isText isName isKey isContainer same sameName indexFrom index isSome added noted top ended moved due full named encoded canonicalFrom canonical fitted contentOf itemAt isBad begin withItem rowRules judge writing
 writing-examples = (
   (refl, refl, refl, refl, refl, refl, refl, refl, refl, refl, refl),
   (refl, refl, refl, refl, refl, refl, refl, refl, refl, refl, refl, refl, refl, refl, refl, refl, refl, refl, refl, refl, refl, refl, refl, refl, refl, refl, refl, refl, refl, refl, refl, refl, refl, refl, refl, refl, refl, refl),

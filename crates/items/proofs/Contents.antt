@@ -1,7 +1,7 @@
 -- Items whose content follows (bytes, strings, names): what each answer means. Assumes nothing.
 use mathlib.Core.Path.{_≡_, refl, ap, sym, subst, _∙_}
 use mathlib.Core.Logic.{_≢_}
-use mathlib.Core.Bool.{Bool, true, false, not}
+use mathlib.Core.Bool.{Bool, true, false, not, _&&_, and-true, and-false}
 use mathlib.Core.List.{List, [], _∷_, _++_}
 use mathlib.Core.Option.{some}
 use Prim.Native.Nat.{ℕ, _+_, _-_, _≤_, _<_}
@@ -11,7 +11,7 @@ use lib.ListN.{length, take, drop, length-append, length-drop}
 use lib.Seq.{drop-drop}
 use Rattle.format.specs.declared.header.Header.{Header}
 use Rattle.format.specs.declared.error.Error.the-variants.{InvalidUtf8, NotCanonical, TooManyEntries, Truncated, UnexpectedKey}
-use Rattle.format.specs.Choice.{pick, _&&_}
+use Rattle.format.specs.Choice.{pick}
 use Rattle.format.specs.Limits.{max-entries}
 use Rattle.format.specs.Answer.{fail}
 use Rattle.format.specs.Utf8.{utf8}
@@ -19,7 +19,7 @@ use Rattle.format.specs.Item.{isKey, isName, isText}
 use Rattle.format.specs.Names.{index, isSome}
 use Rattle.format.specs.Place.{Place, keyAfterKey, tooDeep, moved}
 use Rattle.format.specs.Reading.{Options, State, Found, content, formOf, isContent, itemOf, itemsOf, after, headed}
-use Rattle.format.proofs.Tests.{cases, clash, equal, leb-yes, leb-no, ltb-yes, ltb-no, eqb-yes, eqb-no, and-no-left, and-no-right, and-yes, pick-yes, pick-no}
+use Rattle.format.proofs.Tests.{cases, clash, equal, leb-yes, leb-no, ltb-yes, ltb-no, eqb-yes, eqb-no, and-no-left, and-no-right, pick-yes, pick-no}
 use Rattle.format.proofs.Forms.{form-bytes, form-text}
 use Rattle.symbols.specs.Entries.{entriesOf, partOf}
 use Rattle.symbols.proofs.Entries.{length-entries}
@@ -67,7 +67,7 @@ module _ {s es : List ℕ} {at names keyed next : ℕ} {h : Header} {o : Options
     not-box = and-no-left _ (not-container (x .item) plain)
 
     pub content-cut : length s - next < p → headed o a (some h) (drop at s) ≡ fail Truncated (a .at)
-    unfolding isContent _&&_
+    unfolding isContent
     content-cut l =
         let g : length (drop next s) < h .payload = omega (arith, length-drop next s) in
         at-later ∙ pick-no _ _ not-again ∙ pick-no _ _ not-box ∙ pick-yes _ _ (ltb-yes g)
@@ -77,15 +77,15 @@ module _ {s es : List ℕ} {at names keyed next : ℕ} {h : Header} {o : Options
       uncut = let g : h .payload ≤ length (drop next s) = omega (arith, length-drop next s) in ltb-no g
 
       pub content-text : isText (x .item) && not (utf8 (x .item .content)) ≡ true → headed o a (some h) (drop at s) ≡ fail InvalidUtf8 (a .at)
-      unfolding isContent _&&_
+      unfolding isContent
       content-text e = at-later ∙ pick-no _ _ not-again ∙ pick-no _ _ not-box ∙ pick-no _ _ uncut ∙ pick-yes _ _ e
 
       module _ (text : isText (x .item) && not (utf8 (x .item .content)) ≡ false) where
         at-rest : headed o a (some h) (drop at s)
             ≡ pick (o .strict && (isContent (content k) && isName (x .item)) && isSome (index (x .item) (itemsOf (a .entries)))) (fail NotCanonical (a .at))
-            (pick ((isContent (content k) && isName (x .item)) && leb max-entries (length (a .entries))) (fail TooManyEntries (a .at))
+            (pick (isContent (content k) && isName (x .item) && leb max-entries (length (a .entries))) (fail TooManyEntries (a .at))
             (rowed o a (after a h (content k) x)))
-        unfolding isContent _&&_
+        unfolding isContent
         at-rest = at-later ∙ pick-no _ _ not-again ∙ pick-no _ _ not-box ∙ pick-no _ _ uncut ∙ pick-no _ _ text
 
         -- the state after it
@@ -101,14 +101,14 @@ module _ {s es : List ℕ} {at names keyed next : ℕ} {h : Header} {o : Options
 
         -- bytes and strings
         pub content-value : k < 10 → Judged o s es names a (headed o a (some h) (drop at s)) (out.Value (next + p))
-        unfolding after isContent
+        unfolding after isContent pick
         content-value low =
             let no-name : isName (x .item) ≡ false = not-name (x .item) low in
             let mv = moved-value (a .place) (x .item) (not-key (x .item) (λ e. omega arith)) (and-no-left _ (not-container (x .item) plain)) in
             record {
               next = after a h (content k) x;
-              is = at-rest ∙ pick-no _ _ (and-no-right _ (and-no-left _ (and-no-right _ no-name))) ∙ pick-no _ _ (and-no-left _ (and-no-right _ no-name));
-              stands = after-stands es names 0 _ mv (ended-keyed _ _) (pick-no _ _ (and-no-right _ no-name) ∙ cs .stands .entries);
+              is = at-rest ∙ rw (no-name, and-false);
+              stands = after-stands es names 0 _ mv (ended-keyed _ _) (rw no-name (cs .stands .entries));
               place = mv;
               row = length-append (a .found) (x ∷ []);
             }
@@ -119,19 +119,19 @@ module _ {s es : List ℕ} {at names keyed next : ℕ} {h : Header} {o : Options
           a-name = is-name (x .item) high
 
           pub name-known : o .strict && isKnown s es names x ≡ true → headed o a (some h) (drop at s) ≡ fail NotCanonical (a .at)
-          unfolding isContent _&&_
-          name-known e = at-rest ∙ pick-yes _ _ (rw (a-name, cs .stands .entries) e)
+          unfolding isContent
+          name-known e = at-rest ∙ pick-yes _ _ (rw (a-name, and-true, cs .stands .entries) e)
 
           module _ (fresh : o .strict && isKnown s es names x ≡ false) (size : length es ≡ 256) (few : names ≤ 256) where
-            at-entry : headed o a (some h) (drop at s) ≡ pick ((isContent (content k) && isName (x .item)) && leb max-entries (length (a .entries))) (fail TooManyEntries (a .at)) (rowed o a (after a h (content k) x))
-            unfolding isContent _&&_
-            at-entry = at-rest ∙ pick-no _ _ (rw (a-name, cs .stands .entries) fresh)
+            at-entry : headed o a (some h) (drop at s) ≡ pick (isContent (content k) && isName (x .item) && leb max-entries (length (a .entries))) (fail TooManyEntries (a .at)) (rowed o a (after a h (content k) x))
+            unfolding isContent
+            at-entry = at-rest ∙ pick-no _ _ (rw (a-name, and-true, cs .stands .entries) fresh)
 
             entries-length : length (a .entries) ≡ names
             entries-length = rw (cs .stands .entries) (length-entries s es names size few)
 
             pub name-full : max-entries ≤ names → headed o a (some h) (drop at s) ≡ fail TooManyEntries (a .at)
-            unfolding isContent _&&_
+            unfolding isContent
             name-full l = at-entry ∙ pick-yes _ _ (rw (a-name, entries-length) (leb-yes l))
 
             pub name-goes : names < max-entries → (es′ : List ℕ) → entriesOf s es′ (names + 1) ≡ entriesOf s es names ++ (x ∷ [])
@@ -140,8 +140,8 @@ module _ {s es : List ℕ} {at names keyed next : ℕ} {h : Header} {o : Options
             name-goes l es′ em b q mv kb =
                 record {
                   next = after a h (content k) x;
-                  is = at-entry ∙ pick-no _ _ (and-no-right _ (rw entries-length (leb-no l)));
-                  stands = after-stands es′ (names + 1) b q mv kb (pick-yes _ _ (and-yes refl a-name) ∙ ap (λ (l : List Found). l ++ (x ∷ [])) (cs .stands .entries) ∙ sym em);
+                  is = at-entry ∙ pick-no _ _ (rw (entries-length, leb-no l, and-false));
+                  stands = after-stands es′ (names + 1) b q mv kb (pick-yes _ _ a-name ∙ ap (λ (l : List Found). l ++ (x ∷ [])) (cs .stands .entries) ∙ sym em);
                   place = mv;
                   row = length-append (a .found) (x ∷ []);
                 }
@@ -163,7 +163,7 @@ part-size next p = omega arith
 
 module _ (s : List ℕ) (next p : ℕ) where
   pub body-key : (keyed : ℕ) {h : Header} (b : Body h) → eqb keyed 1 && isKey (partOf s (b .kind) next p .item) ≡ false
-  body-key keyed b = and-no-right _ (not-key (partOf s (b .kind) next p .item) (λ e. omega (arith, b .low)))
+  body-key keyed b = and-no-right (eqb keyed 1) (not-key (partOf s (b .kind) next p .item) (λ e. omega (arith, b .low)))
 
   pub body-text : {h : Header} (b : Body h) {r : Bool} → r ≡ (eqb (h .code) 4 && not (utf8 (take (next + p - next) (drop next s))))
       → isText (partOf s (b .kind) next p .item) && not (utf8 (partOf s (b .kind) next p .item .content)) ≡ r
@@ -172,7 +172,7 @@ module _ (s : List ℕ) (next p : ℕ) where
 
   pub name-text : {h : Header} (b : Name h) {r : Bool} → r ≡ utf8 (take (next + p - next) (drop next s))
       → isText (partOf s (h .code + 5) next p .item) && not (utf8 (partOf s (h .code + 5) next p .item .content)) ≡ not r
-  unfolding isText _&&_
+  unfolding isText
   name-text {h} b e =
       let n : 9 ≤ h .code + 5 = omega (arith, b .high) in
       rw (leb-yes {a = 9} {b = h .code + 5} n) (ap not (sym (rw (part-size next p) at e)))

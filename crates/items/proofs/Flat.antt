@@ -1,7 +1,7 @@
 -- Items with no content of their own (fixed kinds, containers, references): what each answer means. Assumes nothing.
 use mathlib.Core.Path.{_≡_, refl, ap, sym, _∙_}
 use mathlib.Core.Logic.{_≢_}
-use mathlib.Core.Bool.{true, false}
+use mathlib.Core.Bool.{true, false, _&&_}
 use mathlib.Core.List.{List, [], _∷_}
 use mathlib.Core.Option.{some}
 use Prim.Native.Nat.{ℕ, _+_, _-_, _≤_, _<_}
@@ -11,7 +11,7 @@ use lib.ListN.{length, drop, getD, length-append}
 use Rattle.format.specs.declared.header.Header.{Header}
 use Rattle.format.specs.declared.header.FieldCount.{FieldCount}
 use Rattle.format.specs.declared.error.Error.the-variants.{TooDeep, UndefinedReference, UnexpectedKey}
-use Rattle.format.specs.Choice.{pick, _&&_}
+use Rattle.format.specs.Choice.{pick}
 use Rattle.format.specs.Limits.{max-depth}
 use Rattle.format.specs.Answer.{fail}
 use Rattle.format.specs.Kind as Kind
@@ -102,7 +102,7 @@ fixed-value {a = a} bs cs p =
     let x = bare (p .kind) (p .number) .item in
     let key : isKey x ≡ false = not-key x (λ e. omega (arith, p .small)) in
     let box : isContainer x ≡ false = not-container x (λ e. omega (arith, p .small)) in
-    flat-goes bs cs _ (p .form) refl (bare (p .kind) (p .number)) refl (and-no-right _ key) (and-no-left _ box) 0 _ (moved-value (a .place) x key (and-no-left _ box)) (ended-keyed _ _)
+    flat-goes bs cs _ (p .form) refl (bare (p .kind) (p .number)) refl (and-no-right (a .place .keyed) key) (and-no-left _ box) 0 _ (moved-value (a .place) x key (and-no-left _ box)) (ended-keyed _ _)
 
 pub plain-small : (h : Header) → h .code ≡ 0 → h .sz < 5 → Plain h
 plain-small h e l = record { kind = h .sz; number = pick (ltb (h .sz) 3) 0 (h .payload); form = form-fixed h e l; small = omega arith }
@@ -128,16 +128,16 @@ module _ {s es : List ℕ} {at names keyed next : ℕ} {h : Header} {o : Options
 
   pub container-deep : max-depth ≤ length (a .place .opened) → Judged o s es names a (headed o a (some h) bs) (out.Bad TooDeep)
   unfolding itemOf isContent box
-  container-deep l = flat-deep bs cs _ (form-container h code) refl (bare 8 (h .payload)) refl (and-no-right _ box-key) (and-yes box-is (leb-yes l))
+  container-deep l = flat-deep bs cs _ (form-container h code) refl (bare 8 (h .payload)) refl (and-no-right (a .place .keyed) box-key) (and-yes box-is (leb-yes l))
 
   module _ (d : length (a .place .opened) < max-depth) where
     container-goes : (p : Place) → moved (a .place) box ≡ p → p .keyed ≡ false → Goes o s es next names 0 p a (headed o a (some h) bs)
     unfolding itemOf isContent box
-    container-goes p e k = flat-goes bs cs _ (form-container h code) refl (bare 8 (h .payload)) refl (and-no-right _ box-key) (and-no-right _ (leb-no d)) 0 p e k
+    container-goes p e k = flat-goes bs cs _ (form-container h code) refl (bare 8 (h .payload)) refl (and-no-right (a .place .keyed) box-key) (and-no-right (isContainer box) (leb-no d)) 0 p e k
 
     pub container-empty : h .payload ≡ 0 → Judged o s es names a (headed o a (some h) bs) (out.Value next)
     unfolding box
-    container-empty z = container-goes _ (moved-value (a .place) box box-key (and-no-right _ (ltb-no {a = 0} {b = h .payload} (omega arith)))) (ended-keyed _ _)
+    container-empty z = container-goes _ (moved-value (a .place) box box-key (and-no-right (isContainer box) (ltb-no {a = 0} {b = h .payload} (omega arith)))) (ended-keyed _ _)
 
     pub container-held : (n : FieldCount) → n .0 ≡ h .payload → h .payload ≢ 0 → Judged o s es names a (headed o a (some h) bs) (out.Container n next)
     unfolding box
@@ -175,7 +175,7 @@ module _ {s es : List ℕ} {at names keyed next : ℕ} {h : Header} {o : Options
     unfolding isContent
     reference-value z =
         let key : isKey (found .item) ≡ false = key-is ∙ z in
-        flat-goes bs cs _ (form-reference h (omega arith)) refl found meant (and-no-right _ key) (and-no-left _ no-box) 0 _ (moved-value (a .place) (found .item) key (and-no-left _ no-box)) (ended-keyed _ _)
+        flat-goes bs cs _ (form-reference h (omega arith)) refl found meant (and-no-right (a .place .keyed) key) (and-no-left _ no-box) 0 _ (moved-value (a .place) (found .item) key (and-no-left _ no-box)) (ended-keyed _ _)
 
     module _ (z : eqb (kindIn e) Kind.key ≡ true) where
       a-key : isKey (found .item) ≡ true

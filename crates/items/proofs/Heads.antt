@@ -1,19 +1,18 @@
 -- A header that stands in the bytes: its bounds, and which code is left over. Assumes nothing.
 use mathlib.Core.Path.{_≡_, refl, sym, subst}
-use mathlib.Core.Bool.{Bool, false}
+use mathlib.Core.Bool.{Bool, false, _&&_, _||_, and-false}
 use mathlib.Core.List.{List}
 use mathlib.Core.Option.{some}
 use Prim.Native.Nat.{ℕ, _+_, _-_, _^_, _≤_, _<_}
 use native.Mathlib.Omega.{arith}
 use lib.ListN.{length, drop, getD, length-drop}
 use Rattle.format.specs.declared.header.Header.{Header}
-use Rattle.format.specs.Choice.{_&&_, _||_}
 use Rattle.format.specs.Answer.{Answer}
 use Rattle.format.specs.Limits.{max-inline}
 use Rattle.format.specs.Header.{following, headerOf, isLong, isNegativeAlias}
 use Rattle.format.specs.WellFormed.{Byte}
 use Rattle.format.specs.Reading.{Options, State, headed, item}
-use Rattle.format.proofs.Tests.{eqb-no, ltb-no, and-no-left, and-no-right, or-no}
+use Rattle.format.proofs.Tests.{eqb-no, ltb-no}
 use Rattle.format.proofs.Lists.{all-drop}
 use Rattle.format.proofs.Numbers.{bytes-of}
 use Rattle.format.proofs.Headers.{following-none, size-within, headed-of}
@@ -43,7 +42,7 @@ one-byte s at h b e z =
     let d = headed-of (drop at s) h (all-drop Byte at s (bytes-of s (λ i _. b i))) (sym e) in
     let n : following (h .code) (h .sz) ≡ 0 = omega (arith, d .size) in
     let l = following-none (h .code) (h .sz) n in
-    or-no (and-no-left _ (ltb-no {a = max-inline} {b = h .sz} (omega arith))) (and-no-right _ (eqb-no {a = h .payload} {b = 2 ^ 64 - 1} (λ q. absurd (omega (arith, d .inside n)))))
+    rw (ltb-no {a = max-inline} {b = h .sz} (omega arith), eqb-no {a = h .payload} {b = 2 ^ 64 - 1} (λ q. absurd (omega (arith, d .inside n))), and-false)
 
 pub past-header : {strict : Bool} {s es links : List ℕ} {at names : ℕ} {h : Header} → Standing s at h → Fair strict s es links names → Moved strict s es links at (at + h .size) names
 past-header st f = record { on = omega (arith, st .some); within = st .inside; fair = f }

@@ -1,7 +1,7 @@
 -- The rules for one item as a ladder of choices, and which steps an item can stop at. Assumes nothing.
 use mathlib.Core.Path.{_≡_, refl, ap, sym, _∙_}
 use mathlib.Core.Logic.{_≢_}
-use mathlib.Core.Bool.{Bool, true, false, not}
+use mathlib.Core.Bool.{Bool, true, false, not, _&&_, _||_, and-false}
 use mathlib.Core.List.{List, [], _∷_}
 use mathlib.Core.Option.{Option, none, some}
 use Prim.Native.Nat.{ℕ, _+_, _≤_, _<_}
@@ -9,7 +9,7 @@ use lib.Dec.{leb, ltb}
 use lib.ListN.{length, drop}
 use Rattle.format.specs.declared.header.Header.{Header}
 use Rattle.format.specs.declared.error.Error.the-variants.{InvalidUtf8, NotCanonical, TooDeep, TooManyEntries, Truncated, UndefinedReference, UnexpectedKey}
-use Rattle.format.specs.Choice.{pick, _&&_, _||_}
+use Rattle.format.specs.Choice.{pick}
 use Rattle.format.specs.Limits.{max-entries}
 use Rattle.format.specs.declared.failure.Failure.{Failure}
 use Rattle.format.specs.Answer.{Rule, rule, first, Answer, failed, good, fail, unless}
@@ -19,7 +19,7 @@ use Rattle.format.specs.Item.{Item, isKey, isContainer, isName, isText}
 use Rattle.format.specs.Names.{index, isSome}
 use Rattle.format.specs.Place.{keyAfterKey, tooDeep}
 use Rattle.format.specs.Reading.{Options, State, Found, Form, formOf, isContent, itemOf, isMissing, orNull, itemsOf, itemRules, after, headed, item}
-use Rattle.format.proofs.Tests.{leb-yes, leb-no, eqb-yes, eqb-no, pick-yes, pick-no, and-no-left, and-no-right}
+use Rattle.format.proofs.Tests.{leb-yes, leb-no, eqb-yes, eqb-no, pick-yes, pick-no}
 use Rattle.items.specs.Judging.{rowed}
 
 unfoldable pub ladder : List Rule → State → Answer State
@@ -44,7 +44,7 @@ later o s h f bs x b =
     (pick (isContent f && ltb (length bs) (h .payload)) (fail Truncated (s .at))
     (pick (isContent f && isText x && not (utf8 (x .content))) (fail InvalidUtf8 (s .at))
     (pick (o .strict && (isContent f && isName x) && isSome (index x (itemsOf (s .entries)))) (fail NotCanonical (s .at))
-    (pick ((isContent f && isName x) && leb max-entries (length (s .entries))) (fail TooManyEntries (s .at))
+    (pick (isContent f && isName x && leb max-entries (length (s .entries))) (fail TooManyEntries (s .at))
     (rowed o s b))))))
 
 module _ (o : Options) (a : State) (h : Header) (bs : List ℕ) (f : Form) (ef : formOf h ≡ f) (short : o .strict && (isLong h || isNegativeAlias h) ≡ false) where
@@ -101,6 +101,5 @@ module _ (x : Item) where
 -- An item that makes no entry: nothing but the count of rows is left to judge.
 pub by-row : (o : Options) (a : State) (h : Header) (f : Form) (bs : List ℕ) (x : Item) (b : State) → keyAfterKey (a .place) x ≡ false → tooDeep (a .place) x ≡ false → isContent f ≡ false
     → later o a h f bs x b ≡ rowed o a b
-by-row o a h f bs x b key deep flat =
-    pick-no _ _ key ∙ pick-no _ _ deep ∙ pick-no _ _ (and-no-left _ flat) ∙ pick-no _ _ (and-no-left _ flat)
-    ∙ pick-no _ _ (and-no-right _ (and-no-left _ (and-no-left _ flat))) ∙ pick-no _ _ (and-no-left _ (and-no-left _ flat))
+unfolding pick
+by-row o a h f bs x b key deep flat = rw (key, deep, flat, and-false)

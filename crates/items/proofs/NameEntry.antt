@@ -8,7 +8,6 @@ use native.Mathlib.Omega.{arith}
 use lib.ListN.{length, take, drop, set, length-drop, length-set}
 use lib.Seq.{length-take-le}
 use Rattle.format.specs.declared.error.Error.the-variants.{NotCanonical, TooManyEntries}
-use Rattle.format.specs.Choice.{_&&_}
 use Rattle.format.specs.Item.{Item}
 use Rattle.format.specs.Names.{index, isSome}
 use Rattle.format.specs.Reading.{Found, itemsOf}
@@ -41,11 +40,9 @@ module _ (s es : List ℕ) (names kind next e : ℕ) (lo : 10 ≤ kind) (hi : ki
   plain = plainEntry kind next (e - next)
 
   pub plain-full : (links : List ℕ) {r : Out} → 256 ≤ names → r ≡ out.Bad TooManyEntries → Entered false s es es links names kind next e r
-  unfolding _&&_
   plain-full links l q = full refl l q
 
   pub plain-entered : (links : List ℕ) {v : ℕ} {r : Out} → v ≡ plain → names < 256 → r ≡ freshOf kind e → Entered false s es (set es names v) links names kind next e r
-  unfolding _&&_
   plain-entered links ev l q =
       let p : Packed plain next 0 (e - next) kind = packed-plain next (e - next) kind (omega arith) lo hi in
       rw ev
@@ -81,16 +78,16 @@ module _ (s es : List ℕ) (names kind next e : ℕ) (lo : 10 ≤ kind) (hi : ki
 
     pub strict-known : {i : ℕ} {es′ links′ : List ℕ} {r : Out} → index (name kind bytes) (namesIn s s (take names es)) ≡ some i → r ≡ out.Bad NotCanonical
         → Entered true s es es′ links′ names kind next e r
-    unfolding _&&_ isSome
+    unfolding isSome
     strict-known f q = known (known-is f) q
 
     pub strict-full : {es′ links′ : List ℕ} {r : Out} → index (name kind bytes) (namesIn s s (take names es)) ≡ none → 256 ≤ names → r ≡ out.Bad TooManyEntries
         → Entered true s es es′ links′ names kind next e r
-    unfolding _&&_ isSome
+    unfolding isSome
     strict-full f l q = full (known-is f) l q
 
     pub strict-entered : {es′ links′ : List ℕ} {r : Out} → noting.Entered s s es es′ links′ names (name kind bytes) next → r ≡ freshOf kind e → Entered true s es es′ links′ names kind next e r
-    unfolding _&&_ isSome foundIn
+    unfolding isSome foundIn
     strict-entered n q =
         let x : foundIn s (n .entry) ≡ part = λ j. record { item = (n .named ∙ is-part) j; start = n .begins j } in
         entered (known-is (n .new)) (n .room) q

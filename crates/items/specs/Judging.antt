@@ -1,14 +1,14 @@
 -- How offsets, counts and the packed table stand for the state of `Reading`, and what the answers for one item mean.
 use mathlib.Core.Path.{_≡_}
 use mathlib.Core.Logic.{_≢_}
-use mathlib.Core.Bool.{Bool, true, false}
+use mathlib.Core.Bool.{Bool, true, false, _&&_, _||_}
 use mathlib.Core.List.{List, [], _∷_, _++_}
 use Prim.Native.Nat.{ℕ, _+_, _-_, _≤_, _<_, min}
 use lib.Dec.{leb, eqb}
 use lib.ListN.{length}
 use Rattle.format.specs.declared.header.Header.{Header}
 use Rattle.format.specs.declared.error.Error.the-variants.{NotCanonical, TooManyEntries, TooManyRows}
-use Rattle.format.specs.Choice.{pick, _&&_, _||_}
+use Rattle.format.specs.Choice.{pick}
 use Rattle.format.specs.Limits.{max-rows, max-entries}
 use Rattle.format.specs.Kind as Kind
 use Rattle.format.specs.Code as Code

@@ -1,11 +1,10 @@
 // One item, judged by the rules of reading in their order.
 ghost use mathlib.Core.Path.{_≡_};
-ghost use mathlib.Core.Bool.{Bool, true, false};
+ghost use mathlib.Core.Bool.{Bool, true, false, _&&_, _||_};
 ghost use mathlib.Core.List.{List};
 ghost use mathlib.Core.Option.{some};
 ghost use Prim.Native.Nat.{ℕ, _+_, _-_, _≤_, _<_};
 ghost use lib.ListN.{length, drop};
-ghost use Rattle.format.specs.Choice.{_&&_, _||_};
 ghost use Rattle.format.specs.Kind as Kind;
 ghost use Rattle.format.specs.Code as Code;
 ghost use Rattle.format.specs.Limits.{max-bytes, max-entries, max-depth};

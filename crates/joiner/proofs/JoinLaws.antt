@@ -7,7 +7,7 @@ use native.Mathlib.Omega.{arith}
 use lib.ListN.{length}
 use Rattle.format.specs.declared.bundle.Bundle.{Bundle}
 use Rattle.format.specs.declared.failure.Failure.{Failure}
-use Rattle.format.specs.Choice.{pick, _||_}
+use Rattle.format.specs.Choice.{pick}
 use Rattle.format.specs.Answer.{Answer, counted, failed, good, onSide, sided, stored, then}
 use Rattle.format.specs.Item.{Item}
 use Rattle.format.specs.Place.{due, top}
@@ -75,7 +75,7 @@ unread-alone bs old q = let r = unread bs q in record { answer = rw r; buffer = 
 
 -- the empty bundle
 empty-is : reading lenient [] ≡ good start
-unfolding reading run start ending pick due top _||_
+unfolding reading run start ending pick due top
 empty-is = refl
 
 empty-reads : Reads [] 0

@@ -3,7 +3,7 @@ use Prim.Native.Nat.{ℕ}
 use mathlib.Core.Path.{_≡_, refl}
 use mathlib.Core.List.{List, [], _∷_, flatten}
 use lib.ListN.{length}
-use Rattle.format.specs.Choice.{_&&_, _||_, pick}
+use Rattle.format.specs.Choice.{pick}
 use Rattle.format.specs.Answer.{fail, first, rule, then, unless}
 use Rattle.format.specs.Header.{bigEndian, digits, following, header, headerOf, isLong, isNegativeAlias, payloadOf, shift, width, widthFrom}
 use Rattle.format.specs.Utf8.{goodAfter, leads, utf8, within}
@@ -28,5 +28,5 @@ Printed =
     × (length (ascii "bundle  rows  names \n") ≡ first-frame)
 
 pub printed : Printed
-unfolding pick _&&_ _||_ rule first fail unless then bigEndian digits following payloadOf headerOf isLong isNegativeAlias widthFrom width shift header within leads goodAfter utf8 isText isName isKey isContainer same sameName indexFrom index isSome top one-less moved due itemsOf start formOf isContent itemOf isMissing orNull itemRules after headed item ending run reading countsOf counts rowOf rows ascii decimalIn decimal flatten labelled ended bundleLine firstLine rowLine rowLines rowsOf text envelopeText
+unfolding pick rule first fail unless then bigEndian digits following payloadOf headerOf isLong isNegativeAlias widthFrom width shift header within leads goodAfter utf8 isText isName isKey isContainer same sameName indexFrom index isSome top one-less moved due itemsOf start formOf isContent itemOf isMissing orNull itemRules after headed item ending run reading countsOf counts rowOf rows ascii decimalIn decimal flatten labelled ended bundleLine firstLine rowLine rowLines rowsOf text envelopeText
 printed = (refl, refl, refl, refl, refl)

@@ -6,7 +6,7 @@ use Prim.Native.Nat.{ℕ, suc, _+_, _-_, _≤_, _<_}
 use native.Mathlib.Omega.{arith}
 use mathlib.Core.List.{List, [], _∷_}
 use lib.ListN.{length, getD}
-use Rattle.format.specs.Choice.{_&&_, _||_, pick}
+use Rattle.format.specs.Choice.{pick}
 use Rattle.format.specs.Names.{same}
 use Rattle.format.proofs.Tests.{clash, eqb-no, eqb-yes, ltb-no, ltb-yes, pick-no, pick-yes}
 use Rattle.ascii.specs.Text.{ascii}
@@ -31,14 +31,14 @@ file-empty [] z = refl
 file-empty (b ∷ bs) z = absurd (omega (arith, z))
 
 pub file-named : (word : List ℕ) → 0 < length word → getD word 0 0 ≢ hyphen → argumentOf word ≡ File
-unfolding argumentOf same ascii pick _&&_
+unfolding argumentOf same ascii pick
 file-named [] l h = absurd (omega (arith, l))
 file-named (b ∷ bs) l h = rw (eqb-no {b = hyphen} h)
 
 -- What begins with `-` is told by its bytes.
 option : (word : List ℕ) → 0 < length word → getD word 0 0 ≡ hyphen
     → argumentOf word ≡ pick (same word (ascii "--help")) Help (pick (same word (ascii "--version")) Version Unknown)
-unfolding argumentOf same ascii pick _&&_
+unfolding argumentOf same ascii pick
 option [] l h = absurd (omega (arith, l))
 option (b ∷ bs) l h = let e = eqb-yes {a = b} {b = hyphen} h in rw e refl
 
@@ -91,14 +91,14 @@ module _ (s : Stream) where
 
   module _ (fine : s .failed ≡ false) where
     pub status-stopped : s .stopped ≡ true → statusOf s ≡ 1
-    unfolding statusOf _||_
+    unfolding statusOf
     status-stopped e = pick-no _ _ fine ∙ pick-yes _ _ (rw e)
 
     module _ (going : s .stopped ≡ false) where
       pub status-refused : {k : ℕ} {f : Failure} → s .refusal ≡ First k f → statusOf s ≡ 1
-      unfolding statusOf isRefusal _||_
+      unfolding statusOf isRefusal
       status-refused e = pick-no _ _ fine ∙ pick-yes _ _ (rw (going, e))
 
       pub status-good : s .refusal ≡ None → statusOf s ≡ 0
-      unfolding statusOf isRefusal _||_
+      unfolding statusOf isRefusal
       status-good e = pick-no _ _ fine ∙ pick-no _ _ (rw (going, e))

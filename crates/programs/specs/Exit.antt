@@ -2,9 +2,9 @@
 use mathlib.Core.Path.{_≡_}
 use mathlib.Core.Logic.{_⊎_}
 use Prim.Native.Nat.{ℕ, suc, _+_, _-_}
-use mathlib.Core.Bool.{Bool, true, false}
+use mathlib.Core.Bool.{Bool, true, false, _||_}
 use lib.Dec.{ltb}
-use Rattle.format.specs.Choice.{_||_, pick}
+use Rattle.format.specs.Choice.{pick}
 use Rattle.messages.specs.Text.{max-refusal, between}
 use Rattle.stream.specs.declared.state.Refusal.{Refusal}
 use Rattle.stream.specs.declared.state.Refusal.the-variants.{First, None}

@@ -8,7 +8,6 @@ use lib.Dec.{eqb}
 use lib.ListN.{length, drop, replicate}
 use Rattle.format.specs.declared.failure.Failure.{Failure}
 use Rattle.format.specs.declared.error.Error.the-variants.{TooLong, Truncated}
-use Rattle.format.specs.Choice.{_||_}
 use Rattle.format.specs.Limits.{max-bytes, max-rows, max-depth}
 use Rattle.format.specs.Answer.{Answer, fail, failed, good, then}
 use Rattle.format.specs.Place.{Place, top, ended, due}
@@ -73,12 +72,12 @@ module _ (o : Options) (s : List ℕ) where
       at-end = lead .is ∙ run-end o (lead .next) s (omega (arith, lead .stands .offset))
 
       pub top-keyed : eqb (t .keyed) 1 ≡ true → fail Truncated (t .at) ≡ counts o s
-      unfolding fail ending due _||_
+      unfolding fail ending due
       top-keyed k = top-failed (at-end ∙ pick-yes _ _ (ap due (lead .place) ∙ rw k) ∙ ap (fail Truncated) (lead .stands .offset))
 
       pub top-good : (most : ℕ) → min max-rows (o .capacity) ≡ most → length es ≡ 256 → t .names ≤ 256 → eqb (t .keyed) 1 ≡ false
           → answerOf (checked.Good (record { rows = most - t .rows; entries = t .names; fields = f })) ≡ counts o s
-      unfolding then ending due _||_ countsOf
+      unfolding then ending due countsOf
       top-good most m size few k =
           let r : length (lead .next .found) ≡ most - t .rows = omega (arith, lead .row) in
           let e : length (lead .next .entries) ≡ t .names = ap length (lead .stands .entries) ∙ length-entries s es (t .names) size few in

@@ -10,7 +10,6 @@ use lib.ListN.{length, drop}
 use Rattle.format.specs.declared.error.Error.{Error}
 use Rattle.format.specs.declared.error.Error.the-variants.{TooManyRows, Truncated}
 use Rattle.format.specs.declared.header.FieldCount.{FieldCount}
-use Rattle.format.specs.Choice.{_||_}
 use Rattle.format.specs.Limits.{max-rows, max-depth}
 use Rattle.format.specs.declared.failure.Failure.{Failure}
 use Rattle.format.specs.Answer.{Answer, fail, failed, failure}
@@ -65,7 +64,7 @@ midway-less n K f l =
     (λ g. pick-yes _ _ (ltb-yes g) ∙ sym (midway-none (n - 1) false K f (omega arith)))
 
 due-open : (n : ℕ) (K : List ℕ) (b : Bool) (f : ℕ) → due (spot (n ∷ K) b f) ≡ true
-unfolding due _||_
+unfolding due
 due-open n K true f = refl
 due-open n K false f = ltb-yes {a = 0} {b = suc (length K)} (omega arith)
 

@@ -1,6 +1,6 @@
 -- What the item of a turn is, by the code of its header: its kind, and how it stands in full. Assumes nothing.
 use mathlib.Core.Path.{_≡_, refl, sym, ap, _∙_}
-use mathlib.Core.Bool.{true, false}
+use mathlib.Core.Bool.{true, false, _&&_}
 use mathlib.Core.List.{List, [], _++_, append-nil}
 use mathlib.Core.Option.{some}
 use Prim.Native.Nat.{ℕ, _+_, _-_, _^_, _≤_, _<_, min, suc}
@@ -10,7 +10,7 @@ use lib.Dec.{leb, ltb, eqb}
 use lib.ListN.{length, take, drop, length-append}
 use lib.Seq.{length-take-le}
 use Rattle.format.specs.declared.header.Header.{Header}
-use Rattle.format.specs.Choice.{pick, _&&_}
+use Rattle.format.specs.Choice.{pick}
 use Rattle.format.specs.Header.{header, headerOf, digits, following, shift, width, widthFrom}
 use Rattle.format.specs.Item.{isName, isText}
 use Rattle.format.specs.Utf8.{utf8}
@@ -138,4 +138,4 @@ module _ {s : List ℕ} {a u : State} {h : Header} (w : Turn lenient s a u h) wh
 
       pub name-text : utf8 (w .y .item .content) ≡ true
       unfolding isContent isText
-      name-text = not-false (and-right (ap isText part ∙ leb-yes {a = 9} {b = h .code + 5} (omega arith)) (and-right (ap isContent e) (w .passed .text)))
+      name-text = not-false (and-right (and-yes (ap isContent e) (ap isText part ∙ leb-yes {a = 9} {b = h .code + 5} (omega arith))) (w .passed .text))

@@ -1,6 +1,6 @@
 -- One item more of a bundle that is written as it was planned. Assumes nothing.
 use mathlib.Core.Path.{_≡_, refl, sym, ap, _∙_, subst}
-use mathlib.Core.Bool.{true, false}
+use mathlib.Core.Bool.{true, false, _&&_}
 use mathlib.Core.List.{List, [], _∷_, _++_, append-assoc}
 use mathlib.Core.Option.{some}
 use Prim.Native.Nat.{ℕ, _+_, _-_, _≤_, _<_}
@@ -10,7 +10,6 @@ use lib.Dec.{leb, ltb, eqb}
 use lib.ListN.{length, take, drop, getD, set, length-set, length-append, length-take, length-drop}
 use lib.Seq.{take-at}
 use Rattle.format.specs.declared.header.Header.{Header}
-use Rattle.format.specs.Choice.{_&&_}
 use Rattle.format.specs.Header.{headerOf}
 use Rattle.format.specs.Item.{Item, isName}
 use Rattle.format.specs.Names.{index, namesFrom, noted}

@@ -1,13 +1,12 @@
 -- An item as it is written, by the code of its header: what `rewritten` is, and where the item ends. Assumes nothing.
 use mathlib.Core.Path.{_≡_, refl, ap, sym, _∙_}
-use mathlib.Core.Bool.{true, false}
+use mathlib.Core.Bool.{true, false, _&&_}
 use mathlib.Core.List.{List, []}
 use Prim.Native.Nat.{ℕ, _+_, _≤_, _<_}
 use native.Mathlib.Nat.{add-zero}
 use lib.Dec.{leb, ltb, eqb}
 use lib.ListN.{length}
 use Rattle.format.specs.declared.header.Header.{Header}
-use Rattle.format.specs.Choice.{_&&_}
 use Rattle.format.specs.Header.{header}
 use Rattle.format.specs.Reading.{Form, formOf, isContent}
 use Rattle.format.specs.Canonical.{full}

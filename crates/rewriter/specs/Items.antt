@@ -1,11 +1,11 @@
 -- An item of a bundle that reads, by its header and what stands after it.
 use Prim.Native.Nat.{ℕ, _+_, _≤_}
 use mathlib.Core.Path.{_≡_}
-use mathlib.Core.Bool.{true}
+use mathlib.Core.Bool.{true, _&&_}
 use mathlib.Core.List.{List, [], _++_}
 use lib.Dec.{leb, ltb, eqb}
 use lib.ListN.{length, take, drop}
-use Rattle.format.specs.Choice.{pick, _&&_}
+use Rattle.format.specs.Choice.{pick}
 use Rattle.format.specs.declared.header.Header.{Header}
 use Rattle.format.specs.Code as Code
 use Rattle.format.specs.Limits.{fixed-sizes}

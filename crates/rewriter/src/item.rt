@@ -1,11 +1,11 @@
 // What the header of an item in a bundle that reads says of it.
 ghost use mathlib.Core.Path.{_≡_};
+ghost use mathlib.Core.Bool.{_&&_};
 ghost use mathlib.Core.List.{List};
 ghost use mathlib.Core.Option.{some};
 ghost use Prim.Native.Nat.{ℕ, _≤_};
 ghost use lib.Dec.{leb, ltb, eqb};
 ghost use lib.ListN.{length};
-ghost use Rattle.format.specs.Choice.{_&&_};
 ghost use Rattle.format.specs.Code as Code;
 ghost use Rattle.format.specs.Limits.{fixed-sizes, max-header};
 ghost use Rattle.format.specs.Header.{header, headerOf};

@@ -1,7 +1,7 @@
 -- One row judged: which rule refuses it, and what is known after it. Assumes nothing.
 use mathlib.Core.Path.{_≡_, refl, ap, sym, subst, _∙_}
 use mathlib.Core.Logic.{_≢_}
-use mathlib.Core.Bool.{true, false, not}
+use mathlib.Core.Bool.{true, false, not, _&&_}
 use mathlib.Core.List.{List, [], _∷_, _++_, append-assoc}
 use mathlib.Core.Option.{none, some}
 use Prim.Native.Nat.{ℕ, _+_, _^_, _≤_, _<_}
@@ -12,7 +12,7 @@ use lib.ListN.{length, set, length-append, length-map}
 use Rattle.format.specs.declared.row.Row.{Row}
 use Rattle.format.specs.declared.error.Error.{Error}
 use Rattle.format.specs.declared.error.Error.the-variants.{InvalidRow, InvalidUtf8, TooDeep, TooManyEntries, UnexpectedKey}
-use Rattle.format.specs.Choice.{pick, _&&_}
+use Rattle.format.specs.Choice.{pick}
 use Rattle.format.specs.Error.{codeOf}
 use Rattle.format.specs.Kind as Kind
 use Rattle.format.specs.Answer.{failure, rule, first, fail, unless, then}
@@ -189,7 +189,7 @@ module _ {text es links st plan : List ℕ} {xs : List Row} {s : State} (a : Aft
   no-container n = and-no-left _ (eqb-no n)
 
   pub a-container : r .kind ≡ Kind.container → isContainer (itemAt text r) && ltb 0 (r .number) ≡ ltb 0 (r .number)
-  unfolding itemAt isContainer _&&_
+  unfolding itemAt isContainer
   a-container e = rw (eqb-yes e)
 
   -- ---- a row that is no name
@@ -200,7 +200,7 @@ module _ {text es links st plan : List ℕ} {xs : List Row} {s : State} (a : Aft
     no-key = eqb-no {a = r .kind} {b = 11} (λ e. omega arith)
 
     pub no-keys : keyAfterKey (a .progress .place) (itemAt text r) ≡ false
-    no-keys = and-no-right _ no-key
+    no-keys = and-no-right (a .progress .place .keyed) no-key
 
     pub no-name : isName (itemAt text r) ≡ false
     unfolding itemAt isName

@@ -1,7 +1,7 @@
 -- A row by its kind: which rules it breaks, and what it measures. Assumes nothing.
 use mathlib.Core.Path.{_≡_, refl, ap, sym, _∙_}
 use mathlib.Core.Logic.{_≢_}
-use mathlib.Core.Bool.{true, false, not}
+use mathlib.Core.Bool.{true, false, not, _&&_}
 use mathlib.Core.List.{List, [], _∷_}
 use mathlib.Core.Option.{none, some}
 use Prim.Native.Nat.{ℕ, _+_, _-_, _≤_, _<_}
@@ -12,7 +12,6 @@ use Rattle.format.specs.declared.row.Row.{Row}
 use Rattle.format.specs.declared.error.Error.the-variants.{InvalidUtf8, TooDeep, TooManyEntries, UnexpectedKey}
 use Rattle.format.specs.Code as Code
 use Rattle.format.specs.Kind as Kind
-use Rattle.format.specs.Choice.{_&&_, _||_}
 use Rattle.format.specs.Answer.{failure, first}
 use Rattle.format.specs.Header.{header}
 use Rattle.format.specs.Utf8.{utf8}
@@ -37,7 +36,6 @@ use Rattle.rows.proofs.JudgeLaws.{rule-5, rule-6, rule-3, rule-8, rule-
 module _ (text : List ℕ) (r : Row) (h : hasContent (r .kind) ≡ true) where
   -- rule 9 is that the part is outside
   pub content-bad : r .kind ≤ Kind.key → isBad text r ≡ ltb (length text) (r .start + r .number)
-  unfolding _||_
   content-bad l = bad-content text r h ∙ rw (ltb-no {a = 11} {b = r .kind} l)
 
   pub content-full : isBad text r ≡ false → (m : ℕ) → m ≡ length (header (r .kind - Kind.bytes) (r .number)) → m + r .number ≡ length (full (itemAt text r))
@@ -72,7 +70,7 @@ module _ {text es links st plan : List ℕ} {xs : List Row} {s : State} (a : Aft
   value-none n e = plain-none (flat n) e
 
   pub container-none : r .kind ≡ Kind.container → s .depth < max-depth → first (rowRules text (a .progress) r) ≡ none
-  container-none e d = plain-none (depth-is a r ∙ and-no-right _ (leb-no d)) (and-no-left _ (eqb-no {a = r .kind} {b = 9} (λ q. omega arith)))
+  container-none e d = plain-none (depth-is a r ∙ and-no-right (eqb (r .kind) Kind.container) (leb-no d)) (and-no-left _ (eqb-no {a = r .kind} {b = 9} (λ q. omega arith)))
 
 -- ---- no content
 
@@ -81,7 +79,7 @@ unfolding itemAt contentOf
 bare text k n h = item-path refl refl (pick-no _ _ h)
 
 no-content : hasContent 8 ≡ false
-unfolding hasContent _||_
+unfolding hasContent
 no-content = refl
 
 module _ (text : List ℕ) (n : ℕ) where
@@ -115,7 +113,7 @@ module _ {text es links st plan : List ℕ} {xs : List Row} {s : State} (a : Aft
 
     good-text : utf8 (contentOf text r) ≡ true → isText (itemAt text r) && not (utf8 (itemAt text r .content)) ≡ false
     unfolding itemAt
-    good-text u = and-no-right _ (ap not u)
+    good-text u = and-no-right (isText (itemAt text r)) (ap not u)
 
     pub known-none : (i : ℕ) → index (itemAt text r) (namesFrom [] (a .progress .items)) ≡ some i → first (rowRules text (a .progress) r) ≡ none
     unfolding itemAt

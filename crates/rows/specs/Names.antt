@@ -1,12 +1,11 @@
 -- A row that is a name: what is known of it before it is looked up.
 use Prim.Native.Nat.{ℕ, _≤_, _<_}
 use mathlib.Core.Path.{_≡_}
-use mathlib.Core.Bool.{false}
+use mathlib.Core.Bool.{false, _&&_}
 use mathlib.Core.List.{List}
 use lib.Dec.{eqb}
 use lib.ListN.{getD}
 use Rattle.format.specs.declared.row.Row.{Row}
-use Rattle.format.specs.Choice.{_&&_}
 use Rattle.format.specs.Kind as Kind
 use Rattle.format.specs.Writing.{isBad}
 use Rattle.symbols.specs.Entry.{Packed}

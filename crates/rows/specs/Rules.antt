@@ -1,8 +1,7 @@
 -- Rule 9 for a row with no content.
 use Prim.Native.Nat.{ℕ, _^_}
-use mathlib.Core.Bool.{Bool}
+use mathlib.Core.Bool.{Bool, _&&_, _||_}
 use lib.Dec.{eqb, ltb, leb}
-use Rattle.format.specs.Choice.{_&&_, _||_}
 use Rattle.format.specs.Kind as Kind
 use Rattle.format.specs.Header.{negative-alias}
 

@@ -1,12 +1,11 @@
 // A row that is a symbol or a key: found in the table of names, or put into it.
 ghost use mathlib.Core.Path.{_≡_};
-ghost use mathlib.Core.Bool.{true};
+ghost use mathlib.Core.Bool.{true, _||_};
 ghost use mathlib.Core.List.{List};
 ghost use Prim.Native.Nat.{ℕ, _+_, _-_, _≤_, _<_};
 ghost use lib.Dec.{ltb};
 ghost use lib.ListN.{length, set};
 ghost use Rattle.format.specs.declared.row.Row.{Row};
-ghost use Rattle.format.specs.Choice.{_||_};
 ghost use Rattle.format.specs.Kind as Kind;
 ghost use Rattle.format.specs.Code as Code;
 ghost use Rattle.format.specs.Limits.{max-bytes, max-entries, max-kind};

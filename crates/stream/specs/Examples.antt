@@ -3,7 +3,7 @@ use mathlib.Core.Path.{_≡_, refl}
 use mathlib.Core.List.{[], _∷_}
 use lib.ListN.{length}
 use Rattle.format.specs.declared.error.Error.the-variants.{InvalidEnvelope}
-use Rattle.format.specs.Choice.{pick, _||_}
+use Rattle.format.specs.Choice.{pick}
 use Rattle.format.specs.Limits.{max-bytes}
 use Rattle.format.specs.Answer.{fail, failure, outcomeOf}
 use Rattle.format.specs.Header.{bigEndian}
@@ -33,5 +33,5 @@ Processed =
     ≡ record { count = 2; refusal = First 2 (failure InvalidEnvelope 0); written = 0x25 ∷ [] })
 
 pub examples : Processed
-unfolding pick _||_ fail bigEndian opening bundleIn sizeIn outcomeOf noted processedIn processed
+unfolding pick fail bigEndian opening bundleIn sizeIn outcomeOf noted processedIn processed
 examples = (refl, refl)

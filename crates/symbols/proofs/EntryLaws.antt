@@ -5,7 +5,6 @@ use mathlib.Core.List.{List}
 use Prim.Native.Nat.{ℕ, _+_, _*_, _≤_, _<_}
 use native.Mathlib.Omega.{arith}
 use lib.ListN.{length, take, drop}
-use Rattle.format.specs.Choice.{_&&_}
 use Rattle.format.specs.Kind as Kind
 use Rattle.format.specs.Limits.{max-bytes}
 use Rattle.format.specs.Names.{same, sameName}
@@ -32,7 +31,7 @@ module _ {a b : List ℕ} {e kind key : ℕ} (content : List ℕ) (ok : Sound a 
 
   -- the same key: the bytes decide
   pub same-key : keyIn e ≡ key → sameName (name kind content) (nameIn a b e) ≡ same content (partIn a b e)
-  unfolding sameName nameIn _&&_
+  unfolding sameName nameIn
   same-key q =
       let m : keyIn e ≡ keyOf kind content = q ∙ ek in
       let k : kind ≡ kindIn e = omega arith in

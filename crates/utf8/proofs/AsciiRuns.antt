@@ -7,7 +7,7 @@ use native.Mathlib.Omega.{arith}
 use lib.ListN.{length, getD}
 use lib.Dec.{ltb}
 use borrow.Author.Tests.{ltb-true}
-use Rattle.format.specs.Choice.{pick, _&&_ as and}
+use Rattle.format.specs.Choice.{pick}
 use Rattle.format.specs.Utf8.{leads, goodAfter, utf8}
 use Rattle.format.proofs.Tests.{clash, leb-yes, leb-no}
 use Rattle.utf8.specs.Local.{due, passes, passesAt, Passing, Ascii}
@@ -22,7 +22,7 @@ unfolding leads pick
 ascii-leads b h = rw (leb-yes {a = b} {b = 0x7f} (omega arith))
 
 pub ascii-good : (s : List ℕ) → Ascii s 0 (length s) → utf8 s ≡ true
-unfolding utf8 goodAfter and
+unfolding utf8 goodAfter
 ascii-good [] f = refl
 ascii-good (b ∷ bs) f =
     rw (ascii-leads b (f 0 (omega arith) (omega arith))) (ascii-good bs (λ i l u. f (suc i) (omega arith) (omega arith)))

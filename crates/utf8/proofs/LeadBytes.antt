@@ -10,14 +10,10 @@ use native.Mathlib.Omega.{arith}
 use lib.Dec.{leb, ltb, eqb, lit<, lit≤}
 use lib.ListN.{length, drop, getD, drop-of-length-le}
 use lib.Seq.{drop-cons}
-use Rattle.format.specs.Choice.{pick, _&&_ as and}
+use Rattle.format.specs.Choice.{pick}
 use Rattle.format.specs.Utf8.{within, leads, goodAfter}
-use Rattle.format.proofs.Tests.{cases, clash, leb-yes, leb-no, eqb-true, eqb-no, order}
+use Rattle.format.proofs.Tests.{and-true, cases, leb-yes, leb-no, eqb-true, eqb-no, order}
 use Rattle.utf8.specs.Local.{due, dueCount, passes}
-
-pub both : (a b : Bool) → a && b ≡ true → (a ≡ true) × (b ≡ true)
-both true b e = (refl, e)
-both false b e = clash e refl
 
 -- ---- what each byte leads, by a test that is computed at all of them
 
@@ -29,7 +25,7 @@ every-at : (f : ℕ → Bool) (n : ℕ) → every f n ≡ true → (b : ℕ) →
 unfolding every
 every-at f zero e b h = absurd (omega arith)
 every-at f (suc n) e b h =
-    ⊎-elim (λ q. rw q (both _ _ e .0)) (λ l. every-at f n (both (f n) _ e .1) b l) (eq-or-lt-of-le (le-of-suc-le-suc h))
+    ⊎-elim (λ q. rw q (and-true _ _ e .0)) (λ l. every-at f n (and-true (f n) _ e .1) b l) (eq-or-lt-of-le (le-of-suc-le-suc h))
 
 -- What a byte leads, by one bound after the other.
 unfoldable pub leadsBy : ℕ → ℕ
@@ -43,7 +39,7 @@ right : ℕ → Bool
 right b = eqb (leads b) (leadsBy b) && byRule b
 
 table : every right 256 ≡ true
-unfolding every right byRule passes leads leadsBy dueCount due pick within and
+unfolding every right byRule passes leads leadsBy dueCount due pick within
 table = refl
 
 module _ (b : ℕ) (h : 256 ≤ b) where
@@ -54,14 +50,14 @@ module _ (b : ℕ) (h : 256 ≤ b) where
   not-below n l = leb-no {a = b} {b = n} (omega arith)
 
   right-beyond : right b ≡ true
-  unfolding right byRule passes leads leadsBy within due pick and
+  unfolding right byRule passes leads leadsBy within due pick
   right-beyond =
       rw (above 0x80 (lit≤ tt), above 0xc0 (lit≤ tt), above 0xc2 (lit≤ tt), above 0xe0 (lit≤ tt), above 0xf0 (lit≤ tt), above 0xf5 (lit≤ tt), not-below 0x7f (lit< tt), not-below 0xbf (lit< tt), not-below 0xc1 (lit< tt), not-below 0xdf (lit< tt), not-below 0xef (lit< tt), not-below 0xf4 (lit< tt))
 
 module _ (b : ℕ) where
   right-at : (eqb (leads b) (leadsBy b) ≡ true) × (byRule b ≡ true)
   unfolding right
-  right-at = both (eqb (leads b) (leadsBy b)) (byRule b) (order 256 b (right-beyond b) (every-at right 256 table b))
+  right-at = and-true (eqb (leads b) (leadsBy b)) (byRule b) (order 256 b (right-beyond b) (every-at right 256 table b))
 
   pub leads-by : leads b ≡ leadsBy b
   leads-by = eqb-true (leads b) (leadsBy b) (right-at .0)
@@ -69,7 +65,7 @@ module _ (b : ℕ) where
   pub rule-passes : passes 0 0 0 b ≡ true → (ltb (leads b) 4 ≡ true) × (dueCount 0 0 b ≡ leads b)
   unfolding byRule pick
   rule-passes e =
-      let h = both (ltb (leads b) 4) _ (rw e at (right-at .1)) in (h .0, eqb-true (dueCount 0 0 b) (leads b) (h .1))
+      let h = and-true (ltb (leads b) 4) _ (rw e at (right-at .1)) in (h .0, eqb-true (dueCount 0 0 b) (leads b) (h .1))
 
   pub rule-fails : passes 0 0 0 b ≡ false → leads b ≡ 4
   unfolding byRule pick
@@ -87,23 +83,23 @@ module _ (s : List ℕ) (i : ℕ) (h : i < length s) where
   -- none: the byte leads r of them, or nothing
   module _ (k r : ℕ) (z : k ≡ 0) (q : r ≡ leads (getD s i 0)) where
     pub lead : r ≢ 4 → goodAfter k (drop i s) ≡ goodAfter r (drop (i + 1) s)
-    unfolding goodAfter and
+    unfolding goodAfter
     lead n = rw z (here 0 ∙ rw (few (getD s i 0) (λ e. n (q ∙ e)), q))
 
     pub no-lead : r ≡ 4 → goodAfter k (drop i s) ≡ false
-    unfolding goodAfter and
+    unfolding goodAfter
     no-lead e = rw z (here 0 ∙ rw (sym q ∙ e))
 
   -- some: it is one of them, or is not
   pub tail : (k : ℕ) → k ≢ 0 → 0x80 ≤ getD s i 0 → getD s i 0 ≤ 0xbf → goodAfter k (drop i s) ≡ goodAfter (k - 1) (drop (i + 1) s)
-  unfolding goodAfter within and
+  unfolding goodAfter within
   tail zero n l u = absurd (n refl)
   tail (suc k) n l u =
       let e : suc k - 1 ≡ k = omega arith in
       here (suc k) ∙ rw (e, leb-yes {a = 0x80} {b = getD s i 0} l, leb-yes {a = getD s i 0} {b = 0xbf} u)
 
   pub no-tail : (k : ℕ) → k ≢ 0 → (0x80 ≤ getD s i 0 → 0xbf < getD s i 0) → goodAfter k (drop i s) ≡ false
-  unfolding goodAfter within and
+  unfolding goodAfter within
   no-tail zero n f = absurd (n refl)
   no-tail (suc k) n f =
       here (suc k)

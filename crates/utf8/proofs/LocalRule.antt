@@ -8,25 +8,16 @@ use native.Mathlib.Omega.{arith}
 use lib.Dec.{leb}
 use lib.ListN.{length, drop, getD, drop-of-length-le}
 use lib.Seq.{drop-cons}
-use Rattle.format.specs.Choice.{pick, _&&_ as and}
+use Rattle.format.specs.Choice.{pick}
 use Rattle.format.specs.Utf8.{within, goodAfter, utf8}
-use Rattle.format.proofs.Tests.{cases, clash, leb-no, leb-true, leb-false}
+use Rattle.format.proofs.Tests.{and-true, cases, clash, leb-no, leb-true, leb-false, or-false as neither}
 use Rattle.utf8.specs.Local.{due, dueCount, passes, passesAt, Passing, goodFrom, Checked}
-use Rattle.utf8.proofs.LeadBytes.{both, rule-passes, rule-fails}
+use Rattle.utf8.proofs.LeadBytes.{rule-passes, rule-fails}
 use Rattle.utf8.proofs.Ranges.{one-more, joined}
 
-neither : (a b : Bool) → a || b ≡ false → (a ≡ false) × (b ≡ false)
-neither true b e = clash refl e
-neither false b e = (refl, e)
-
-regroup : (a b c d : Bool) → a && (b && (c && d)) ≡ ((a && b && c) && d)
+regroup : (a b c d : Bool) → a && (b && (c && d)) ≡ (a && b && c && d)
 regroup true b c d = sym (and-assoc b c d)
 regroup false b c d = refl
-
-same-and : (p q : Bool) → and p q ≡ (p && q)
-unfolding and
-same-and true q = refl
-same-and false q = refl
 
 -- ---- one byte after three
 
@@ -49,11 +40,11 @@ module _ (p3 p2 p1 b : ℕ) (bs : List ℕ) where
       rw (leb-no {a = 0xf0} {b = b} (omega arith), leb-no {a = 0xe0} {b = b} (omega arith), leb-no {a = 0xc0} {b = b} (omega arith))
 
   step-due : due p3 p2 p1 ≡ true → goodAfter (dueCount p3 p2 p1) (b ∷ bs) ≡ (passes p3 p2 p1 b && goodAfter (dueCount p2 p1 b) bs)
-  unfolding goodAfter passes within and
+  unfolding goodAfter passes within
   step-due e =
-      rw (count-due e, e, same-and (leb 0x80 b) (leb b 0xbf))
+      rw (count-due e, e)
       (cases (leb 0x80 b && leb b 0xbf)
-      (λ q. let h = both (leb 0x80 b) _ q .1 in let l : b ≤ 0xbf = leb-true b 0xbf h in
+      (λ q. let h = and-true (leb 0x80 b) _ q .1 in let l : b ≤ 0xbf = leb-true b 0xbf h in
       rw (q, count-next h, leb-no {a = 0xc0} {b = b} (omega arith), leb-no {a = 0xf5} {b = b} (omega arith)))
       (λ q. rw q))
 
@@ -83,7 +74,7 @@ module _ (p3 p2 p1 b : ℕ) (bs : List ℕ) where
     passes-lead = rw e
 
     step-none : goodAfter (dueCount p3 p2 p1) (b ∷ bs) ≡ (passes p3 p2 p1 b && goodAfter (dueCount p2 p1 b) bs)
-    unfolding goodAfter and
+    unfolding goodAfter
     step-none =
         rw (count-none, passes-lead, count-lead)
         (cases (passes 0 0 0 b) (λ q. let h = rule-passes b q in rw (q, h .0, h .1)) (λ q. rw (q, rule-fails b q)))
@@ -137,7 +128,7 @@ module _ (s : List ℕ) where
 
   -- the first three bytes
   pub started : 3 ≤ length s
-      → utf8 s ≡ ((passes 0 0 0 (getD s 0 0) && passes 0 0 (getD s 0 0) (getD s 1 0) && passes 0 (getD s 0 0) (getD s 1 0) (getD s 2 0)) && goodFrom s 0)
+      → utf8 s ≡ (passes 0 0 0 (getD s 0 0) && passes 0 0 (getD s 0 0) (getD s 1 0) && passes 0 (getD s 0 0) (getD s 1 0) (getD s 2 0) && goodFrom s 0)
   unfolding utf8 goodFrom dueCount due pick
   started h =
       let x = getD s 0 0 in

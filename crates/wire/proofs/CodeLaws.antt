@@ -1,11 +1,11 @@
 -- Integers and containers by the code of their header. Assumes nothing.
 use mathlib.Core.Path.{_≡_, refl}
-use mathlib.Core.Bool.{true, false}
+use mathlib.Core.Bool.{true, false, _&&_}
 use Prim.Native.Nat.{ℕ, zero, suc, _+_, _≤_, _<_}
 use native.Mathlib.Omega.{arith}
 use lib.Dec.{leb}
 use Rattle.format.specs.declared.header.Header.{Header}
-use Rattle.format.specs.Choice.{pick, _&&_}
+use Rattle.format.specs.Choice.{pick}
 use Rattle.format.specs.Kind as Kind
 use Rattle.format.specs.Code as Code
 use Rattle.format.specs.Reading.{fixed, formOf}

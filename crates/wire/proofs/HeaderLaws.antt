@@ -10,7 +10,7 @@ use native.Mathlib.Omega.{arith}
 use lib.Dec.{lit<}
 use lib.ListN.{length, take, drop, getD, length-drop, drop-of-length-le}
 use lib.Seq.{take-suc, getD-drop, drop-cons}
-use Rattle.format.specs.Choice.{pick, _&&_}
+use Rattle.format.specs.Choice.{pick}
 use Rattle.format.specs.Limits.{max-inline}
 use Rattle.format.specs.Header.{bigEndian, following, payloadOf, headerOf}
 use Rattle.format.proofs.Tests.{eqb-no, leb-yes, leb-no, ltb-no, pick-yes, pick-no}
@@ -66,7 +66,7 @@ module _ (s : List ℕ) (at : ℕ) (h : at < length s) where
   -- one byte with the payload in it
   pub inline-header : getD s at 0 / 32 ≢ 0 → getD s at 0 % 32 ≤ max-inline
       → headerOf (drop at s) ≡ some (record { code = getD s at 0 / 32; sz = getD s at 0 % 32; payload = getD s at 0 % 32; size = 1 })
-  unfolding following _&&_ pick
+  unfolding following pick
   inline-header c l =
       let n : 0 ≡ following (getD s at 0 / 32) (getD s at 0 % 32) = rw (ltb-no {a = max-inline} {b = getD s at 0 % 32} l, eqb-no c) in
       let p = payload-inside (getD s at 0 / 32) (getD s at 0 % 32) 0 (drop (at + 1) s) refl in

@@ -1,13 +1,12 @@
 -- Bytes compared, one by one. Assumes nothing.
 use mathlib.Core.Path.{_≡_, refl, ap, _∙_}
-use mathlib.Core.Bool.{true, false}
+use mathlib.Core.Bool.{true, false, _&&_}
 use mathlib.Core.List.{List, [], _∷_}
 use Prim.Native.Nat.{ℕ, suc, _+_, _<_}
 use native.Mathlib.Numerals.{add-one}
 use lib.Dec.{eqb}
 use lib.ListN.{length, drop, getD}
 use lib.Seq.{drop-cons, drop-length}
-use Rattle.format.specs.Choice.{_&&_}
 use Rattle.format.specs.Names.{same}
 use Rattle.format.proofs.Tests.{eqb-yes, eqb-no, and-no-left, and-no-right}
 
@@ -18,7 +17,7 @@ unfolding same
 apart [] [] h = absurd (h refl)
 apart [] (y ∷ ys) h = refl
 apart (x ∷ xs) [] h = refl
-apart (x ∷ xs) (y ∷ ys) h = and-no-right _ (apart xs ys (λ e. h (ap suc e)))
+apart (x ∷ xs) (y ∷ ys) h = and-no-right (eqb x y) (apart xs ys (λ e. h (ap suc e)))
 
 module _ (xs ys : List ℕ) (i : ℕ) (hx : i < length xs) (hy : i < length ys) where
   both : same (drop i xs) (drop i ys) ≡ (eqb (getD xs i 0) (getD ys i 0) && same (drop (i + 1) xs) (drop (i + 1) ys))
@@ -31,7 +30,6 @@ module _ (xs ys : List ℕ) (i : ℕ) (hx : i < length xs) (hy : i < length ys) 
 
   -- it is the same: the rest decides
   pub agrees : getD xs i 0 ≡ getD ys i 0 → same (drop i xs) (drop i ys) ≡ same (drop (i + 1) xs) (drop (i + 1) ys)
-  unfolding _&&_
   agrees h = both ∙ rw (eqb-yes h)
 
 -- at the end of both

@@ -1,7 +1,7 @@
 // Integers and containers by the code of their header.
 ghost use mathlib.Core.Path.{_≡_};
+ghost use mathlib.Core.Bool.{_&&_};
 ghost use lib.Dec.{leb};
-ghost use Rattle.format.specs.Choice.{_&&_};
 ghost use Rattle.format.specs.Code as Code;
 ghost use Rattle.wire.specs.Numbers.{numberOf};
 use format::Header;

@@ -1,8 +1,7 @@
 // Rules of one item that reading and writing ask alike.
 ghost use mathlib.Core.Path.{_≡_};
-ghost use mathlib.Core.Bool.{not};
+ghost use mathlib.Core.Bool.{not, _&&_};
 ghost use lib.Dec.{eqb};
-ghost use Rattle.format.specs.Choice.{_&&_};
 ghost use Rattle.format.specs.Kind as Kind;
 ghost use Rattle.format.specs.Utf8.{utf8};
 use format::Row;

@@ -1,7 +1,7 @@
 -- The answer of writing, case by case, and the rows that are written with it. Assumes nothing.
 use mathlib.Core.Path.{_≡_, refl, sym, ap, _∙_}
 use mathlib.Core.Logic.{_≢_}
-use mathlib.Core.Bool.{Bool, true, false}
+use mathlib.Core.Bool.{Bool, true, false, _||_}
 use mathlib.Core.List.{List, [], append-nil}
 use Prim.Native.Nat.{ℕ, _≤_, _<_, min}
 use native.Mathlib.Nat.{le-refl}
@@ -13,7 +13,7 @@ use Rattle.format.specs.declared.row.Row.{Row}
 use Rattle.format.specs.declared.error.Error.{Error}
 use Rattle.format.specs.declared.error.Error.the-variants.{OutputTooLong, TooLong, TooManyEntries, TooManyRows, Truncated}
 use Rattle.format.specs.Error.{codeOf}
-use Rattle.format.specs.Choice.{_||_, pick}
+use Rattle.format.specs.Choice.{pick}
 use Rattle.format.specs.Limits.{max-entries, max-bytes, max-rows}
 use Rattle.format.specs.Answer.{Answer, counted, fail, failed, good, stored, then}
 use Rattle.format.specs.Names.{namesFrom}
@@ -39,11 +39,11 @@ use Rattle.writer.specs.Extent.{limitOf, rowsIn}
 -- ---- how many rows are judged
 
 pub limit-rows : {rows : ℕ} (text : ℕ) → max-rows < rows → limitOf rows text ≡ 0
-unfolding limitOf _||_
+unfolding limitOf
 limit-rows text l = pick-yes _ _ (rw (ltb-yes l))
 
 pub limit-text : {text : ℕ} (rows : ℕ) → max-bytes < text → limitOf rows text ≡ 0
-unfolding limitOf _||_
+unfolding limitOf
 limit-text rows l = pick-yes _ _ (cases (ltb max-rows rows) (λ m. rw m) (λ m. rw (m, ltb-yes l)))
 
 pub limit-all : {rows text : ℕ} → rows ≤ max-rows → text ≤ max-bytes → limitOf rows text ≡ rows

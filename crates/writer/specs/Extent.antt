@@ -1,7 +1,8 @@
 -- How many rows the writer judges and writes.
 use Prim.Native.Nat.{ℕ}
+use mathlib.Core.Bool.{_||_}
 use lib.Dec.{ltb}
-use Rattle.format.specs.Choice.{pick, _||_}
+use Rattle.format.specs.Choice.{pick}
 use Rattle.format.specs.Limits.{max-rows, max-bytes}
 use Rattle.format.specs.Answer.{Answer, good, failed}
 

@@ -1,12 +1,12 @@
 // Writing rows over a text: judged first, then written.
 ghost use mathlib.Core.Path.{_≡_};
+ghost use mathlib.Core.Bool.{_||_};
 ghost use mathlib.Core.List.{List};
 ghost use Prim.Native.Nat.{ℕ};
 ghost use lib.Dec.{eqb, ltb};
 ghost use lib.ListN.{length, take};
 ghost use Rattle.format.specs.declared.row.Row.{Row};
 ghost use Rattle.format.specs.declared.error.Error.{Error};
-ghost use Rattle.format.specs.Choice.{_||_};
 ghost use Rattle.format.specs.Answer.{counted};
 ghost use Rattle.format.specs.Error.{codeOf};
 ghost use Rattle.format.specs.Writing.{writing};

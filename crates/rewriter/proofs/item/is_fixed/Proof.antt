@@ -1,15 +1,12 @@
 -- `rewriter::item::is_fixed` meets its contract: two tests. Assumes nothing.
-use Rattle.format.specs.Choice.{_&&_}
 use Rattle.format.proofs.Tests.{eqb-yes, eqb-no}
 use Rattle.rewriter.proofs.item.is_fixed.Statement.{statement}
 use Rattle.rewriter.proofs.item.is_fixed.Tie as tie
 
 returns : tie.Need-returns
-unfolding _&&_
 returns c = rw (eqb-no (c .if1 .taken))
 
 returns-2 : tie.Need-returns-2
-unfolding _&&_
 returns-2 c = rw (eqb-yes (c .if1 .left))
 
 pub is-fixed-spec : {M : Type 1} → statement M

@@ -1,9 +1,8 @@
 -- `rows::row::content_row` meets its contract: outside the text, no UTF-8, or taken. Assumes nothing.
 use native.Mathlib.Omega.{arith}
 use mathlib.Core.Path.{ap, sym, _∙_}
-use mathlib.Core.Bool.{not}
+use mathlib.Core.Bool.{not, _&&_}
 use lib.Dec.{eqb}
-use Rattle.format.specs.Choice.{_&&_}
 use Rattle.format.specs.Utf8.{utf8}
 use Rattle.rows.proofs.RowLaws.{content-kinds}
 use Rattle.rows.specs.Judging.{invalid-row, invalid-utf8}

@@ -1,15 +1,12 @@
 -- `is_integer` is a range of codes. Assumes nothing.
-use Rattle.format.specs.Choice.{_&&_}
 use Rattle.format.proofs.Tests.{leb-yes, leb-no}
 use Rattle.wire.proofs.codes.is_integer.Statement.{statement}
 use Rattle.wire.proofs.codes.is_integer.Tie as tie
 
 returns : tie.Need-returns
-unfolding _&&_
 returns c = rw (leb-no (c .if1 .taken))
 
 returns-2 : tie.Need-returns-2
-unfolding _&&_
 returns-2 c = rw (leb-yes (c .if1 .left))
 
 pub is-integer-spec : {M : Type 1} → statement M

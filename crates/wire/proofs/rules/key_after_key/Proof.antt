@@ -1,15 +1,12 @@
 -- `key_after_key` tells a key after a key. Assumes nothing.
-use Rattle.format.specs.Choice.{_&&_}
 use Rattle.format.proofs.Tests.{eqb-yes, eqb-no}
 use Rattle.wire.proofs.rules.key_after_key.Statement.{statement}
 use Rattle.wire.proofs.rules.key_after_key.Tie as tie
 
 returns : tie.Need-returns
-unfolding _&&_
 returns c = rw (eqb-no (c .if1 .taken))
 
 returns-2 : tie.Need-returns-2
-unfolding _&&_
 returns-2 c = rw (eqb-yes (c .if1 .left))
 
 pub key-after-key-spec : {M : Type 1} → statement M
