@@ -9,8 +9,8 @@ use crate::line::put_envelope;
 use crate::line::put_first;
 use crate::line::put_row;
 use crate::table::Table;
-use format::Outcome;
 use ascii::Decimal;
+use format::Outcome;
 use format::Row;
 use reader::Checked;
 
