@@ -1,6 +1,6 @@
 -- Two laws of writing and reading together, from what `write` and `read` promise alone. proofs/Laws proves both.
 use mathlib.Core.Path.{_≡_}
-use Prim.Native.Nat.{ℕ, _^_, _≤_, _<_}
+use Prim.Native.Nat.{ℕ, _≤_}
 use mathlib.Core.List.{List}
 use lib.ListN.{length, take, drop}
 use Rattle.format.specs.declared.bundle.Bundle.{Bundle}
@@ -10,7 +10,7 @@ use Rattle.format.specs.Answer.{good}
 use Rattle.format.specs.Item.{Item}
 use Rattle.format.specs.WellFormed.{All, Bytes}
 use Rattle.format.specs.Reading.{items, options}
-use Rattle.format.specs.Rows.{itemsAt}
+use Rattle.format.specs.Rows.{Word, itemsAt}
 use Rattle.format.specs.Canonical.{canonical}
 use Rattle.format.specs.Writing.{fitted, writing}
 use Rattle.reader.specs.declared.checking.Checked.{Checked}
@@ -19,10 +19,6 @@ use Rattle.reader.specs.Promises.{Read}
 use Rattle.format.specs.declared.written.Written.{Written}
 use Rattle.format.specs.declared.written.Written.the-variants.{Done}
 use Rattle.format.specs.Written.{Writes}
-
--- A row's number is a word, which its type `u64` says, as `u8` says that text is bytes.
-abbrev pub Word : Row → Type 0
-Word r = r .number < 2 ^ 64
 
 -- ---- what is written reads back
 

@@ -18,7 +18,7 @@ fn filled_in(bytes: &[u8], rows: &mut [Row], n: usize)
     requires { ⌜ Fillable (now bytes) (now rows) n ⌝ }
     ensures { λ _. ⌜ Fills (now (bytes .entry)) n (now (rows .entry)) (now (rows .exit)) ⌝ }
 {
-    let mut table = [0u64; SymbolTable::MAX_ENTRIES];
+    let mut table = SymbolTable::new();
     fill(bytes, &mut table, rows, n);
 }
 

@@ -5,7 +5,7 @@ use mathlib.Core.Bool.{true}
 use mathlib.Core.List.{List, [], _++_}
 use mathlib.Core.Option.{some}
 use lib.ListN.{length, drop, getD, getElem?}
-use Rattle.format.specs.Limits.{max-bytes, max-entries, max-header, max-rows}
+use Rattle.format.specs.Limits.{max-bytes, max-entries, max-item, max-rows}
 use Rattle.format.specs.Answer.{good}
 use Rattle.format.specs.Item.{Item, isName}
 use Rattle.format.specs.Names.{index, namesFrom}
@@ -13,10 +13,6 @@ use Rattle.format.specs.Reading.{State, itemsOf, lenient, reading, run}
 use Rattle.symbols.specs.Entry.{sideOf}
 use Rattle.encoder.specs.Plan.{Measured}
 use Rattle.rewriter.specs.declared.measuring.Tally.{Tally}
-
--- The longest item in full.
-abbrev pub max-item : ℕ
-max-item = max-header + max-bytes
 
 -- One item more, which ends at an offset.
 unfoldable pub tallied : Tally → ℕ → ℕ → ℕ → ℕ → Tally

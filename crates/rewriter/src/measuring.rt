@@ -6,11 +6,11 @@ ghost use mathlib.Core.Option.{some};
 ghost use Prim.Native.Nat.{_+_, _≤_, _<_, _^_};
 ghost use lib.ListN.{length, drop, getD, set};
 ghost use Rattle.format.specs.Code as Code;
-ghost use Rattle.format.specs.Limits.{max-bytes, max-entries, max-header, max-rows};
+ghost use Rattle.format.specs.Limits.{max-bytes, max-entries, max-header, max-item, max-rows};
 ghost use Rattle.format.specs.Header.{header, headerOf};
 ghost use Rattle.format.specs.Item.{Item};
 ghost use Rattle.format.specs.Reading.{State};
-ghost use Rattle.rewriter.specs.Measuring.{max-item, tallied, Bundled, Partway, Onward, Here, Begun, Ready, Measures};
+ghost use Rattle.rewriter.specs.Measuring.{tallied, Bundled, Partway, Onward, Here, Begun, Ready, Measures};
 use crate::item::is_fixed;
 use crate::item::is_number;
 use crate::item::shortest_len;
@@ -26,6 +26,7 @@ use symbols::lookup::note;
 use wire::header::Head;
 use wire::header::header_at;
 use wire::header::header_len;
+use wire::header::kind_of;
 
 // How far measuring has come.
 pub struct Tally {
@@ -143,7 +144,7 @@ fn name<'a>(
     let len = ByteLength::of(h);
     let e = next + len.0 as usize;
     let old = t.entries;
-    let kind = h.code + Header::KIND_SHIFT;
+    let kind = kind_of(h.code);
     let p = &s[next..e];
     let key = key_of(kind, p);
     let n = t.names;

@@ -23,7 +23,7 @@ use Rattle.format.specs.Names.{noted}
 use Rattle.format.specs.Place.{keyAfterKey, tooDeep, moved}
 use Rattle.format.specs.Rows.{itemAt}
 use Rattle.format.specs.Writing.{isBad, Progress, begin, withItem, rowRules, judge}
-use Rattle.format.specs.Limits.{max-depth, max-entries, max-rows}
+use Rattle.format.specs.Limits.{max-depth, max-entries, max-item, max-rows}
 use Rattle.rows.specs.Plan.{plan-size}
 use Rattle.format.proofs.Tests.{cases, eqb-yes, eqb-no, leb-no, ltb-yes, ltb-no, and-no-left, and-no-right, pick-yes, pick-no, applied-none}
 use Rattle.format.proofs.Names.{noted-plain}
@@ -33,7 +33,7 @@ use Rattle.rows.specs.declared.state.State.{State}
 use Rattle.rows.specs.Stack.{bottom, Stands}
 use Rattle.rows.specs.Steps.{refused, valued, keyedBy, namedBy, openedBy}
 use Rattle.encoder.specs.Plan.{Measured}
-use Rattle.rows.specs.Judging.{After, Next, Ready, RowError, invalid-row, invalid-utf8, too-deep, too-many-entries, unexpected-key, max-item}
+use Rattle.rows.specs.Judging.{After, Next, Ready, RowError, invalid-row, invalid-utf8, too-deep, too-many-entries, unexpected-key}
 use Rattle.rows.proofs.StackLaws.{opened-length, stands-value, stands-key, stands-open}
 use Rattle.encoder.proofs.MeasureLaws.{names-more, measure-plain}
 

@@ -21,11 +21,11 @@ use Rattle.format.specs.Canonical.{full}
 use Rattle.format.specs.Place.{tooDeep}
 use Rattle.format.specs.Rows.{contentOf, itemAt}
 use Rattle.format.specs.Writing.{isBad, rowRules}
-use Rattle.format.specs.Limits.{max-bytes, max-depth, max-entries}
+use Rattle.format.specs.Limits.{max-bytes, max-depth, max-entries, max-item}
 use Rattle.format.proofs.Tests.{equal, eqb-yes, eqb-no, leb-yes, leb-no, ltb-no, and-yes, and-no-left, and-no-right, pick-no}
 use Rattle.format.proofs.Names.{item-path, noted-known, noted-fresh}
 use Rattle.rows.specs.declared.state.State.{State}
-use Rattle.rows.specs.Judging.{max-item, After}
+use Rattle.rows.specs.Judging.{After}
 use Rattle.encoder.proofs.Lengths.{header-most, length-sized}
 use Rattle.rows.proofs.RowLaws.{content-kinds, bad-content, bad-plain, number-other, inside, content-length}
 use Rattle.encoder.proofs.MeasureLaws.{known-text}

@@ -9,7 +9,7 @@ use Rattle.format.specs.declared.error.Error.{Error}
 use Rattle.format.specs.declared.error.Error.the-variants.{InvalidRow, InvalidUtf8, TooDeep, TooManyEntries, UnexpectedKey}
 use Rattle.format.specs.Error.{codeOf}
 use Rattle.format.specs.Answer.{Answer, fail}
-use Rattle.format.specs.Limits.{max-bytes, max-rows, max-depth, max-header}
+use Rattle.format.specs.Limits.{max-bytes, max-rows, max-depth, max-item}
 use Rattle.format.specs.Names.{namesFrom}
 use Rattle.format.specs.WellFormed.{All}
 use Rattle.format.specs.Rows.{itemsAt}
@@ -33,10 +33,6 @@ pub record RefusedAs (judgement : Answer Progress) (s : State) : Type 0 where
   pub of-row : RowError error
   pub number : codeOf error ≡ s .error
   pub is : judgement ≡ fail error (s .row)
-
--- The most bytes of an item in full: a header and content.
-abbrev pub max-item : ℕ
-max-item = max-header + max-bytes
 
 -- The rows xs were taken, and s is the state after them.
 pub record After (text es links st plan : List ℕ) (xs : List Row) (s : State) : Type 0 where

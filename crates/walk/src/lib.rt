@@ -19,6 +19,7 @@ use symbols::entry::plain_entry;
 use wire::codes::is_integer;
 use wire::codes::number_of;
 use wire::header::Head;
+use wire::header::kind_of;
 
 // How far a walk has come.
 pub struct Walked {
@@ -103,7 +104,7 @@ fn headed(table: &mut [u64; SymbolTable::MAX_ENTRIES], w: Walked, h: Header) -> 
     // most items first
     if is_integer(code) {
         let n = number_of(code, h.payload);
-        return fixed(code + Header::KIND_SHIFT, n, next, entries);
+        return fixed(kind_of(code), n, next, entries);
     }
     if Header::REFERENCE <= code {
         return Walked {
@@ -114,7 +115,7 @@ fn headed(table: &mut [u64; SymbolTable::MAX_ENTRIES], w: Walked, h: Header) -> 
     }
     if Header::SYMBOL <= code {
         let len = ByteLength::of(h);
-        return name(table, code + Header::KIND_SHIFT, len, next, entries);
+        return name(table, kind_of(code), len, next, entries);
     }
     if code == Header::STRING {
         return content(Row::STRING, ByteLength::of(h), next, entries);

@@ -16,8 +16,8 @@ add-next c = omega (arith, near (c .before .before .pre .1 .walks) (c .before .b
 is-integer-requires : tie.Need-is-integer-requires
 is-integer-requires c κs = search needs
 
-add-fixed : tie.Need-add-fixed
-add-fixed c =
+kind-of-requires : tie.Need-kind-of-requires
+kind-of-requires c κs =
     let q = c .before .before .before .before .before in
     let w = code-within 1 2 (q .args .h .code) (sym (c .before .before .is-integer .ensures) ∙ c .before .if1 .taken) in omega (arith, w .1)
 
@@ -29,9 +29,11 @@ fixed-requires c κs = search needs
 
 returns : tie.Need-returns
 returns c =
-    let q = c .before .before .before .before .before .before in
-    let w = code-within 1 2 (q .args .h .code) (sym (c .before .before .before .is-integer .ensures) ∙ c .before .before .if1 .taken) in
-    λ bs e o u s p. fixed-on p e _ _ (form-number (q .args .h) (w .0) (omega (arith, w .1))) (rw (c .before .number-of .ensures) at (c .fixed .ensures))
+    let number = c .before .before in
+    let q = number .before .before .before .before .before in
+    let w = code-within 1 2 (q .args .h .code) (sym (number .before .before .is-integer .ensures) ∙ number .before .if1 .taken) in
+    let f = form-number (q .args .h) (w .0) (omega (arith, w .1)) in
+    λ bs e o u s p. fixed-on p e _ _ f (rw (number .number-of .ensures, c .before .kind-of .ensures) at (c .fixed .ensures))
 
 referred-requires : tie.Need-referred-requires
 referred-requires c κs =
@@ -43,25 +45,34 @@ returns-2 c =
     let q = c .before .before .before .before .before .before .before in
     λ bs e o u s p. reference-on p e (form-reference (q .args .h) (c .before .before .if2 .taken)) (c .referred .ensures) refl
 
-add-name : tie.Need-add-name
-add-name c = search needs
+kind-of-requires-2 : tie.Need-kind-of-requires-2
+kind-of-requires-2 c κs = search needs
 
 of-requires : tie.Need-of-requires
 of-requires c κs = search needs
 
 name-requires : tie.Need-name-requires
 name-requires c κs =
-    let q = c .before .before .before .before .before .before .before .before in
-    let f = form-text (q .args .h) (omega (arith, c .before .before .if3 .taken)) (omega (arith, c .before .before .before .if2 .left)) in
+    let length = c .before .before in
+    let q = length .before .before .before .before .before .before .before in
+    let above = length .before .if3 .taken in
+    let below = length .before .before .if2 .left in
+    let f = form-text (q .args .h) (omega (arith, above)) (omega (arith, below)) in
     let p = q .pre .1 .walks in
     let e = q .pre .2 in
-    (omega (arith, c .before .before .if3 .taken), omega (arith, c .before .before .before .if2 .left), near p e, rw (c .before .of .ensures) (content-small p e f), name-few p e f (omega (arith, c .before .before .if3 .taken)))
+    rw (length .of .ensures, c .kind-of2 .ensures)
+    (omega (arith, above), omega (arith, below), near p e, content-small p e f, name-few p e f (omega (arith, above)))
 
 returns-3 : tie.Need-returns-3
 returns-3 c =
-    let q = c .before .before .before .before .before .before .before .before .before in
-    let f = form-text (q .args .h) (omega (arith, c .before .before .before .if3 .taken)) (omega (arith, c .before .before .before .before .if2 .left)) in
-    λ bs e o u s p. name-on p e f (omega (arith, c .before .before .before .if3 .taken)) (omega (arith, c .before .before .before .before .if2 .left)) (c .before .before .of .ensures) (c .name .ensures .1) (c .name .ensures .0)
+    let kind = c .before in
+    let length = kind .before .before in
+    let q = length .before .before .before .before .before .before .before in
+    let above = length .before .if3 .taken in
+    let below = length .before .before .if2 .left in
+    let f = form-text (q .args .h) (omega (arith, above)) (omega (arith, below)) in
+    let entered = rw (kind .kind-of2 .ensures) at (c .name .ensures) in
+    λ bs e o u s p. name-on p e f (omega (arith, above)) (omega (arith, below)) (length .of .ensures) (entered .1) (entered .0)
 
 of-requires-2 : tie.Need-of-requires-2
 of-requires-2 c κs = search needs
@@ -123,13 +134,13 @@ headed-spec =
     add-next
     is-integer-requires
     number-of-requires
-    add-fixed
+    kind-of-requires
     fixed-requires
     returns
     referred-requires
     returns-2
     of-requires
-    add-name
+    kind-of-requires-2
     name-requires
     returns-3
     of-requires-2
