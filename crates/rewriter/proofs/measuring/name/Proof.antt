@@ -39,7 +39,8 @@ key-of-requires : tie.Need-key-of-requires
 key-of-requires c κs =
     let kind = c .before in
     let s = kind .before .before .before .before .before .before .before in
-    let q = name-here (s .pre) .part in rw (kind .before .of .ensures, kind .kind-of .ensures) (q .low, q .high, q .short)
+    let q = name-here (s .pre) .part in
+    rw (kind .before .of .ensures, kind .kind-of .ensures) (omega (arith, q .low), omega (arith, q .high), q .short)
 
 note-requires : tie.Need-note-requires
 note-requires c κs =
