@@ -24,7 +24,9 @@ enough : (k n : ℕ) → n < 10 ^ suc k → decimalIn (suc (suc k)) n ≡ decima
 enough zero n l = in-small 1 n l ∙ sym (in-small 0 n l)
 enough (suc k) n l =
     order 10 n
-    (λ g. in-large (suc (suc k)) n g ∙ ap (λ (ds : List ℕ). ds ++ ((48 + n % 10) ∷ [])) (enough k (n / 10) (div-lt-iff-lt-mul (omega arith) .1 (rw pow-suc at l))) ∙ sym (in-large (suc k) n g))
+    (λ g. in-large (suc (suc k)) n g
+    ∙ ap (λ (ds : List ℕ). ds ++ ((48 + n % 10) ∷ []))
+    (enough k (n / 10) (div-lt-iff-lt-mul (omega arith) .1 (rw pow-suc at l))) ∙ sym (in-large (suc k) n g))
     (λ g. in-small (suc (suc k)) n g ∙ sym (in-small (suc k) n g))
 
 small : (n : ℕ) → n < 10 → decimal n ≡ (48 + n) ∷ []
@@ -39,7 +41,8 @@ few : (k n : ℕ) → length (decimalIn k n) ≤ k
 unfolding decimalIn
 few zero n = omega arith
 few (suc k) n =
-    order 10 n (λ g. rw (in-large k n g, length-append (decimalIn k (n / 10))) (omega (arith, few k (n / 10)))) (λ g. rw (in-small k n g) (omega arith))
+    order 10 n (λ g. rw (in-large k n g, length-append (decimalIn k (n / 10))) (omega (arith, few k (n / 10))))
+    (λ g. rw (in-small k n g) (omega arith))
 
 pub length-decimal : (n : ℕ) → length (decimal n) ≤ max-digits
 unfolding decimal
@@ -50,13 +53,16 @@ pair : (n : ℕ) → 10 ≤ n → n < 100 → decimal n ≡ flatten (((48 + n / 
 unfolding flatten
 pair n g l = large n g (omega arith) ∙ ap (λ (ds : List ℕ). ds ++ ((48 + n % 10) ∷ [])) (small (n / 10) (omega arith))
 
-last-two : (n : ℕ) → 100 ≤ n → n < 2 ^ 64 → decimal n ≡ flatten (decimal (n / 100) ∷ ((48 + n % 100 / 10) ∷ []) ∷ ((48 + n % 100 % 10) ∷ []) ∷ [])
+last-two : (n : ℕ) → 100 ≤ n → n < 2 ^ 64 → decimal n ≡ flatten (decimal (n / 100) ∷ ((48 + n % 100 / 10) ∷ [])
+    ∷ ((48 + n % 100 % 10) ∷ []) ∷ [])
 unfolding flatten
 last-two n g fits =
     let hundredth : n / 10 / 10 ≡ n / 100 = omega arith in
     let tens : n / 10 % 10 ≡ n % 100 / 10 = omega arith in
     let ones : n % 10 ≡ n % 100 % 10 = omega arith in
-    large n (omega arith) fits ∙ ap (λ (ds : List ℕ). ds ++ ((48 + n % 10) ∷ [])) (large (n / 10) (omega arith) (omega arith)) ∙ append-assoc (decimal (n / 10 / 10)) ((48 + n / 10 % 10) ∷ []) ((48 + n % 10) ∷ [])
+    large n (omega arith) fits
+    ∙ ap (λ (ds : List ℕ). ds ++ ((48 + n % 10) ∷ [])) (large (n / 10) (omega arith) (omega arith))
+    ∙ append-assoc (decimal (n / 10 / 10)) ((48 + n / 10 % 10) ∷ []) ((48 + n % 10) ∷ [])
     ∙ rw (hundredth, tens, ones)
 
 -- ---- written

@@ -12,6 +12,7 @@ module _ (word : List ℕ) (n : ℕ) (out : List ℕ) (capacity : length (labell
   unfolding labelled
   word-fits = first-fits word (decimal n ∷ []) out capacity
 
-  pub word-put : {l : List ℕ} {at : ℕ} → (at ≡ length word) × (l ≡ word ++ drop (length word) out) → Stage (labelled word n) out l at (decimal n ∷ [])
+  pub word-put : {l : List ℕ} {at : ℕ} → (at ≡ length word) × (l ≡ word ++ drop (length word) out)
+      → Stage (labelled word n) out l at (decimal n ∷ [])
   unfolding labelled
   word-put {l} {at} p = first word (decimal n ∷ []) out capacity l at p

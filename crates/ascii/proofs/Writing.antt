@@ -15,7 +15,8 @@ pub record Stage (whole l₀ l : List ℕ) (n : ℕ) (ps : List (List ℕ)) : Ty
   pub inside : n + length (flatten ps) ≤ length l
   pub capacity : length whole ≤ length l₀
 
-staged : {w l₀ l : List ℕ} {n : ℕ} {ps : List (List ℕ)} → Wrote w l₀ l n (flatten ps) → n ≤ length l → length w ≤ length l₀ → Stage w l₀ l n ps
+staged : {w l₀ l : List ℕ} {n : ℕ} {ps : List (List ℕ)} → Wrote w l₀ l n (flatten ps) → n ≤ length l
+    → length w ≤ length l₀ → Stage w l₀ l n ps
 staged q le capacity = record { wrote = q; inside = omega (arith, to-come q le, q .long); capacity = capacity }
 
 -- nothing is written yet
@@ -45,7 +46,8 @@ module _ (h : List ℕ) (ps : List (List ℕ)) (l₀ : List ℕ) (capacity : len
 
   pub first : (l : List ℕ) (n : ℕ) → Puts h n l₀ l → Stage (flatten (h ∷ ps)) l₀ l n ps
   unfolding flatten
-  first l n p = let o = wrote-front h (flatten ps) l₀ l n (p .0) (p .1) first-fits in staged o (omega (arith, o .long, first-fits, p .0)) capacity
+  first l n p = let o = wrote-front h (flatten ps) l₀ l n (p .0) (p .1) first-fits in
+      staged o (omega (arith, o .long, first-fits, p .0)) capacity
 
 -- the next byte was written
 pub next-byte : {w l₀ l : List ℕ} {n b : ℕ} {ps : List (List ℕ)} → Stage w l₀ l n ((b ∷ []) ∷ ps) → Stage w l₀ (set l n b) (n + 1) ps
@@ -61,11 +63,25 @@ ends q = finish (q .wrote) (omega (arith, q .inside))
 
 -- the same, of the buffer as it is now
 pub afresh : {w l₀ l : List ℕ} {n : ℕ} {ps : List (List ℕ)} → Stage w l₀ l n ps → Stage w l l n ps
-afresh q = record { wrote = record { front = q .wrote .front; back = refl; long = refl }; inside = q .inside; capacity = omega (arith, q .capacity, q .wrote .long) }
+afresh q = record {
+  wrote = record { front = q .wrote .front; back = refl; long = refl };
+  inside = q .inside;
+  capacity = omega (arith, q .capacity, q .wrote .long);
+}
 
 -- what was written of a buffer that had been written to n′ bytes
-pub since : {w l₀ l l′ : List ℕ} {n n′ : ℕ} {ps ps′ : List (List ℕ)} → Stage w l₀ l n ps → Stage w l l′ n′ ps′ → n ≤ n′ → Stage w l₀ l′ n′ ps′
+pub since : {w l₀ l l′ : List ℕ} {n n′ : ℕ} {ps ps′ : List (List ℕ)} → Stage w l₀ l n ps → Stage w l l′ n′ ps′ → n ≤ n′
+    → Stage w l₀ l′ n′ ps′
 since {l₀ = l₀} {l} {l′} {n} {n′} q q′ le =
     let e : n + (n′ - n) ≡ n′ = omega arith in
-    let back : drop n′ l ≡ drop n′ l₀ = subst (λ (m : ℕ). drop m l ≡ drop m l₀) e (sym (drop-drop (n′ - n) n l) ∙ ap (drop (n′ - n)) (q .wrote .back) ∙ drop-drop (n′ - n) n l₀) in
-    record { wrote = record { front = q′ .wrote .front; back = q′ .wrote .back ∙ back; long = q′ .wrote .long ∙ q .wrote .long }; inside = q′ .inside; capacity = q .capacity }
+    let back : drop n′ l ≡ drop n′ l₀ = subst (λ (m : ℕ). drop m l ≡ drop m l₀) e (sym (drop-drop (n′ - n) n l)
+    ∙ ap (drop (n′ - n)) (q .wrote .back) ∙ drop-drop (n′ - n) n l₀) in
+    record {
+      wrote = record {
+        front = q′ .wrote .front;
+        back = q′ .wrote .back ∙ back;
+        long = q′ .wrote .long ∙ q .wrote .long;
+      };
+      inside = q′ .inside;
+      capacity = q .capacity;
+    }

@@ -24,7 +24,8 @@ module _ (x : Item) (out : List ℕ) (m : ℕ) (l : x .kind < 5) (e : following 
   fixed-fits =
       rw (length-digits m (x .number)) at (byte-fits (full x) out (digits m (x .number)) [] (x .kind) 0 (full-fixed x m l e) capacity)
 
-  module _ (r : ℕ) (ys : List ℕ) (er : r ≡ m) (ey : ys ≡ digits m (x .number) ++ drop m (take (length (set out 0 (x .kind)) - 1) (drop 1 (set out 0 (x .kind))))) where
+  module _ (r : ℕ) (ys : List ℕ) (er : r ≡ m)
+      (ey : ys ≡ digits m (x .number) ++ drop m (take (length (set out 0 (x .kind)) - 1) (drop 1 (set out 0 (x .kind))))) where
     pub fixed-wrote : Wrote (full x) out (putMid 1 (length (set out 0 (x .kind)) - 1) (set out 0 (x .kind)) ys) (1 + r) []
     fixed-wrote =
         let d = length-digits m (x .number) in
@@ -34,7 +35,8 @@ module _ (x : Item) (out : List ℕ) (m : ℕ) (l : x .kind < 5) (e : following 
     fixed-puts = finish-all fixed-wrote (omega (arith, length-fixed x m l e))
 
 -- the kind alone
-pub lead-puts : (x : Item) (out : List ℕ) → x .kind < 5 → following 0 (x .kind) ≡ 0 → length (full x) ≤ length out → Puts (full x) 1 out (set out 0 (x .kind))
+pub lead-puts : (x : Item) (out : List ℕ) → x .kind < 5 → following 0 (x .kind) ≡ 0 → length (full x) ≤ length out
+    → Puts (full x) 1 out (set out 0 (x .kind))
 unfolding digits
 lead-puts x out l e capacity =
     let s = length-fixed x 0 l e in
@@ -54,7 +56,9 @@ module _ (r : ℕ) (bs : List ℕ) where
 -- ---- at an offset
 
 -- the tail from there on came back as ys, with bs at its start
-pub puts-at : (at r : ℕ) (bs out ys : List ℕ) → Puts bs r (take (length out - at) (drop at out)) ys → PutsAt at bs (at + r) out (putMid at (length out - at) out ys)
+pub puts-at : (at r : ℕ) (bs out ys : List ℕ) → Puts bs r (take (length out - at) (drop at out)) ys
+    → PutsAt at bs (at + r) out (putMid at (length out - at) out ys)
 puts-at at r bs out ys h =
-    let z : drop (length out - at) (drop at out) ≡ [] = drop-of-length-le (drop at out) {i = length out - at} (omega (arith, length-drop at out)) in
+    let z : drop (length out - at) (drop at out) ≡ [] = drop-of-length-le (drop at out) {i = length out - at}
+    (omega (arith, length-drop at out)) in
     (ap (λ (n : ℕ). at + n) (h .0), rw (h .1, tail at out, z, append-nil (bs ++ drop (length bs) (drop at out)), drop-drop (length bs) at out))

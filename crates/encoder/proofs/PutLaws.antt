@@ -24,9 +24,16 @@ puts-then : (cs bs : List ℕ) (at r : ℕ) (old new next : List ℕ) → Puts c
 puts-then cs bs at r old new next p q =
     (q .0 ∙ rw (p .0, length-append cs bs), q .1 ∙ rw (p .1, p .0) both)
   where
-    both : take (length cs) (cs ++ drop (length cs) old) ++ (bs ++ drop (length cs + length bs) (cs ++ drop (length cs) old)) ≡ (cs ++ bs) ++ drop (length (cs ++ bs)) old
+    both : take (length cs) (cs ++ drop (length cs) old)
+        ++ (bs ++ drop (length cs + length bs) (cs ++ drop (length cs) old)) ≡ (cs ++ bs) ++ drop (length (cs ++ bs)) old
     both =
-        rw (take-at cs (drop (length cs) old) (length cs) refl, drop-append-add cs (drop (length cs) old) (length bs), drop-drop (length bs) (length cs) old, length-append cs bs, append-assoc cs bs (drop (length cs + length bs) old))
+        rw (
+          take-at cs (drop (length cs) old) (length cs) refl,
+          drop-append-add cs (drop (length cs) old) (length bs),
+          drop-drop (length bs) (length cs) old,
+          length-append cs bs,
+          append-assoc cs bs (drop (length cs + length bs) old),
+        )
 
 -- ---- an item as the plan has it
 
@@ -39,12 +46,15 @@ pub at-seam : {A : Type 0} (xs ys : List A) (x : A) → getElem? (xs ++ (x ∷ y
 at-seam [] ys x = refl
 at-seam (y ∷ xs) ys x = at-seam xs ys x
 
-encoded-plan : (plan : List ℕ) (xs ys : List Item) (x : Item) → Planned plan (xs ++ (x ∷ ys)) → length (namesFrom [] xs) ≤ 256 → encoded (namesFrom [] xs) x ≡ encodedAt plan (length xs) x
+encoded-plan : (plan : List ℕ) (xs ys : List Item) (x : Item) → Planned plan (xs ++ (x ∷ ys))
+    → length (namesFrom [] xs) ≤ 256 → encoded (namesFrom [] xs) x ≡ encodedAt plan (length xs) x
 unfolding encoded encodedAt
 encoded-plan plan xs ys x p l =
     cases (isName x)
     (λ n. pick-yes _ _ n ∙ by-reference x (namesFrom [] xs) (index x (namesFrom [] xs)) refl l
-    ∙ ap (λ (r : ℕ). referring r (full x)) (sym (rw (take-at xs (x ∷ ys) (length xs) refl) at (p .refers (length xs) x (at-seam xs ys x) n))) ∙ sym (pick-yes _ _ n))
+    ∙ ap (λ (r : ℕ). referring r (full x))
+    (sym (rw (take-at xs (x ∷ ys) (length xs) refl) at (p .refers (length xs) x (at-seam xs ys x) n)))
+    ∙ sym (pick-yes _ _ n))
     (λ n. pick-no _ _ n ∙ sym (pick-no _ _ n))
 
 -- ---- items in their order
@@ -58,15 +68,18 @@ canonical-within xs ys = rw (canonical-append [] xs ys, length-append (canonical
 
 -- ---- item x after the items xs, before the items ys
 
-module _ (plan : List ℕ) (capacity : ℕ) (xs : List Item) (x : Item) (ys : List Item) (planned : Planned plan (xs ++ (x ∷ ys))) (few : length (namesFrom [] (xs ++ (x ∷ ys))) ≤ 256)
+module _ (plan : List ℕ) (capacity : ℕ) (xs : List Item) (x : Item) (ys : List Item)
+    (planned : Planned plan (xs ++ (x ∷ ys))) (few : length (namesFrom [] (xs ++ (x ∷ ys))) ≤ 256)
     (fits : length (canonical (xs ++ (x ∷ ys))) ≤ capacity) where
   pub one-more : canonical (xs ++ (x ∷ [])) ≡ canonical xs ++ encodedAt plan (length xs) x
-  one-more = canonical-more xs x ∙ ap (λ (bs : List ℕ). canonical xs ++ bs) (encoded-plan plan xs ys x planned (names-fewer xs (x ∷ ys) few))
+  one-more = canonical-more xs x
+      ∙ ap (λ (bs : List ℕ). canonical xs ++ bs) (encoded-plan plan xs ys x planned (names-fewer xs (x ∷ ys) few))
 
   pub one-fits : length (canonical xs) + length (encodedAt plan (length xs) x) ≤ capacity
   one-fits =
       rw (← length-append (canonical xs) (encodedAt plan (length xs) x), ← one-more)
       (le-trans (canonical-within (xs ++ (x ∷ [])) ys) (rw (append-assoc xs (x ∷ []) ys) fits))
 
-  pub puts-more : (at r : ℕ) (old new next : List ℕ) → Puts (canonical xs) at old new → PutsAt at (encodedAt plan (length xs) x) r new next → Puts (canonical (xs ++ (x ∷ []))) r old next
+  pub puts-more : (at r : ℕ) (old new next : List ℕ) → Puts (canonical xs) at old new
+      → PutsAt at (encodedAt plan (length xs) x) r new next → Puts (canonical (xs ++ (x ∷ []))) r old next
   puts-more at r old new next a b = rw one-more (puts-then (canonical xs) (encodedAt plan (length xs) x) at r old new next a b)

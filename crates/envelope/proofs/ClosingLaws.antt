@@ -37,7 +37,8 @@ module _ (bs old : List ℕ) where
     unfolding closing pick fail
     closes-short q m = closes-failed q (rw (ltb-no l, ltb-yes m))
 
-    pub closes-good : (r : ℕ) (new : List ℕ) → overhead + length bs ≤ length old → (r ≡ length (envelope bs)) × (new ≡ envelope bs ++ drop (length (envelope bs)) old) → Closes (Done r) new
+    pub closes-good : (r : ℕ) (new : List ℕ) → overhead + length bs ≤ length old → (r ≡ length (envelope bs))
+        × (new ≡ envelope bs ++ drop (length (envelope bs)) old) → Closes (Done r) new
     unfolding closing counted then stored pick
     closes-good r new m h =
         let e = ltb-no m in

@@ -50,7 +50,8 @@ module _ (bs : List ℕ) where
 
   -- The longest envelope is all there.
   all-there : max-envelope ≤ length bs → missingFrom bs ≡ 0
-  all-there l = order (lengthField bs) (1 + max-bytes) (λ m. let e = missing-rest (omega arith) m in omega arith) (missing-nothing (omega arith))
+  all-there l = order (lengthField bs) (1 + max-bytes) (λ m. let e = missing-rest (omega arith) m in omega arith)
+      (missing-nothing (omega arith))
 
   module _ (more : List ℕ) (l : 2 ≤ length bs) where
     abbrev n : ℕ
@@ -65,9 +66,11 @@ module _ (bs : List ℕ) where
         equal (getD bs 2 0) version
         (λ e.
         opened (bs ++ more) (omega arith) (omega arith) (omega arith) (omega arith) (v ∙ e)
-        ∙ ap good (rw (q, drop-append-le overhead bs more (omega arith)) (take-append-le (n - 1) (drop overhead bs) more (omega (arith, length-drop overhead bs))))
+        ∙ ap good (rw (q, drop-append-le overhead bs more (omega arith))
+        (take-append-le (n - 1) (drop overhead bs) more (omega (arith, length-drop overhead bs))))
         ∙ sym (opened bs l p m f e))
-        (λ e. other-version (bs ++ more) (omega arith) (omega arith) (omega arith) (omega arith) (λ z. e (sym v ∙ z)) ∙ sym (other-version bs l p m f e))
+        (λ e. other-version (bs ++ more) (omega arith) (omega arith) (omega arith) (omega arith) (λ z. e (sym v ∙ z))
+        ∙ sym (other-version bs l p m f e))
 
     stays : missingFrom bs ≡ 0 → opening (bs ++ more) ≡ opening bs
     stays z =

@@ -54,21 +54,25 @@ module _ (bs : List ℕ) where
           opened v = rw (ltb-no l, ltb-no p, ltb-no m, ltb-no f, eqb-yes v)
 
 -- What holds of both errors, and of each part that lies in the bytes, holds of opening them.
-pub opening-cases {ℓ} : (P : Answer (List ℕ) → Type ℓ) (bs : List ℕ) → P (fail InvalidEnvelope 0) → P (fail UnsupportedVersion 0) → ((n : ℕ) → overhead + n ≤ length bs → P (good (take n (drop overhead bs)))) → P (opening bs)
+pub opening-cases {ℓ} : (P : Answer (List ℕ) → Type ℓ) (bs : List ℕ) → P (fail InvalidEnvelope 0)
+    → P (fail UnsupportedVersion 0) → ((n : ℕ) → overhead + n ≤ length bs → P (good (take n (drop overhead bs))))
+    → P (opening bs)
 opening-cases P bs length-bad version-bad fine =
     let n = lengthField bs in
     order 2 (length bs)
     (λ l. order 1 n
     (λ p. order n (1 + max-bytes)
     (λ m. order (2 + n) (length bs)
-    (λ f. equal (getD bs 2 0) version (λ v. subst P (sym (opened bs l p m f v)) (fine (n - 1) (omega arith))) (λ v. subst P (sym (other-version bs l p m f v)) version-bad))
+    (λ f. equal (getD bs 2 0) version (λ v. subst P (sym (opened bs l p m f v)) (fine (n - 1) (omega arith)))
+    (λ v. subst P (sym (other-version bs l p m f v)) version-bad))
     (λ f. subst P (sym (too-few bs l p m f)) length-bad))
     (λ m. subst P (sym (too-long bs l p m)) length-bad))
     (λ p. subst P (sym (counts-nothing bs l p)) length-bad))
     (λ l. subst P (sym (no-length bs l)) length-bad)
 
 -- The bundle of an envelope that opens is a part of the bytes, as long as is answered.
-pub opens : (bs : List ℕ) {n : ℕ} → good n ≡ counted (opening bs) → (overhead + n ≤ length bs) × (opening bs ≡ good (take n (drop overhead bs)))
+pub opens : (bs : List ℕ) {n : ℕ} → good n ≡ counted (opening bs) → (overhead + n ≤ length bs)
+    × (opening bs ≡ good (take n (drop overhead bs)))
 unfolding counted then fail
 opens bs {n} =
     opening-cases (λ (a : Answer (List ℕ)). good n ≡ counted a → (overhead + n ≤ length bs) × (a ≡ good (take n (drop overhead bs)))) bs
@@ -77,15 +81,18 @@ opens bs {n} =
     let k : n ≡ m = good-inj e ∙ length-take-le m (drop overhead bs) (omega (arith, length-drop overhead bs)) in
     (omega arith, ap (λ (i : ℕ). good (take i (drop overhead bs))) (sym k)))
 
-pub opens-as : (bs : List ℕ) {n : ℕ} → good n ≡ counted (opening bs) → (opening bs ≡ good (bundleIn (opening bs))) × (length (bundleIn (opening bs)) ≡ n)
+pub opens-as : (bs : List ℕ) {n : ℕ} → good n ≡ counted (opening bs) → (opening bs ≡ good (bundleIn (opening bs)))
+    × (length (bundleIn (opening bs)) ≡ n)
 unfolding counted then bundleIn
-opens-as bs e = let q = opens bs e .1 in (q ∙ ap good (sym (ap bundleIn q)), ap (λ (a : Answer (List ℕ)). length (bundleIn a)) q ∙ sym (good-inj (e ∙ ap counted q)))
+opens-as bs e = let q = opens bs e .1 in
+    (q ∙ ap good (sym (ap bundleIn q)), ap (λ (a : Answer (List ℕ)). length (bundleIn a)) q ∙ sym (good-inj (e ∙ ap counted q)))
 
 -- Why it does not open is answered.
 pub refuses : (bs : List ℕ) {f : Failure} → failed f ≡ counted (opening bs) → opening bs ≡ failed f
 refuses bs e = stored-failed {A = ℕ} [] (opening bs) refl (sym e) .0
 
-pub counted-length : (bs : List ℕ) (n : ℕ) → overhead + n ≤ length bs → opening bs ≡ good (take n (drop overhead bs)) → good n ≡ counted (opening bs)
+pub counted-length : (bs : List ℕ) (n : ℕ) → overhead + n ≤ length bs → opening bs ≡ good (take n (drop overhead bs))
+    → good n ≡ counted (opening bs)
 unfolding counted then
 counted-length bs n l e = rw e (ap good (sym (length-take-le n (drop overhead bs) (omega (arith, length-drop overhead bs)))))
 
@@ -103,4 +110,5 @@ fails bs e q = rw q
 -- An envelope lies in the bytes.
 pub size-fits : (bs : List ℕ) → sizeIn (opening bs) ≤ length bs
 unfolding sizeIn fail
-size-fits bs = opening-cases (λ (a : Answer (List ℕ)). sizeIn a ≤ length bs) bs (omega arith) (omega arith) (λ n l. omega (arith, length-take n (drop overhead bs)))
+size-fits bs = opening-cases (λ (a : Answer (List ℕ)). sizeIn a ≤ length bs) bs (omega arith) (omega arith)
+    (λ n l. omega (arith, length-take n (drop overhead bs)))

@@ -54,7 +54,8 @@ is-refused e = rw e refused
 module _ (o : Options) where
   -- ---- two bundles
 
-  of-two : {a b old new : List ℕ} {xs ys : List Item} {r : Written} → Means o a xs → Means o b ys → Joins o a b old r new → OfTwo o xs ys old r new
+  of-two : {a b old new : List ℕ} {xs ys : List Item} {r : Written} → Means o a xs → Means o b ys
+      → Joins o a b old r new → OfTwo o xs ys old r new
   unfolding fail
   of-two {old = old} {xs = xs} {ys} p q j =
       let n = length old in
@@ -77,7 +78,8 @@ module _ (o : Options) where
 
   -- ---- the empty bundle, and three
 
-  yields-of : {result : Answer (List ℕ)} {old new : List ℕ} {xs : List Item} {r : Written} → result ≡ fitted (length old) (canonical xs) → Writes result old r new → Yields o xs old r new
+  yields-of : {result : Answer (List ℕ)} {old new : List ℕ} {xs : List Item} {r : Written}
+      → result ≡ fitted (length old) (canonical xs) → Writes result old r new → Yields o xs old r new
   unfolding fail
   yields-of {old = old} {xs = xs} e w =
       record {
@@ -90,7 +92,8 @@ module _ (o : Options) where
   alone : {a : List ℕ} {xs : List Item} (capacity : ℕ) → Means o a xs → together capacity xs ≡ fitted capacity (canonical xs)
   alone {xs = xs} capacity p = together-within capacity xs (means-within p)
 
-  of-three : {a b c : List ℕ} {xs ys zs : List Item} → max-rows ≤ o .capacity → Means o a xs → Means o b ys → Means o c zs → OfThree o a b c xs ys zs
+  of-three : {a b c : List ℕ} {xs ys zs : List Item} → max-rows ≤ o .capacity → Means o a xs → Means o b ys
+      → Means o c zs → OfThree o a b c xs ys zs
   of-three {a} {b} {c} {xs} {ys} {zs} whole p q s =
       record { result = λ w. result w .0; answers = answers; agree = λ v w. (answers v ∙ sym (answers w), result v .0 ∙ sym (result w .0)) }
     where

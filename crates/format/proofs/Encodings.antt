@@ -52,7 +52,8 @@ heading-line {code} {p} (wire.inline l) =
     record {
       sz = szOf code p;
       sized = λ e. rw e (sz-zero p);
-      read = λ rest. subst (λ (hs : List ℕ). headerOf (hs ++ rest) ≡ some (record { code = code; sz = szOf code p; payload = p; size = length hs }))
+      read = λ rest. subst (λ (hs : List ℕ). headerOf (hs ++ rest) ≡ some
+          (record { code = code; sz = szOf code p; payload = p; size = length hs }))
           (pick-yes _ _ (ltb-yes {a = p + shift code} {b = 24} (omega arith))) (headerOf-header code p rest (omega arith));
     }
 heading-line {code} {p} (wire.longer {k} one most l) =
@@ -61,11 +62,13 @@ heading-line {code} {p} (wire.longer {k} one most l) =
       sz = 23 + k;
       sized = λ _. omega arith;
       read = λ rest. rw (length-digits k p, ← one-add k)
-          (rw (n, pick-no (23 + k - shift code) p (eqb-no {a = k} {b = 0} (omega arith))) at (headerOf-headerBytes code (23 + k) p rest (omega arith) (λ _. rw n l)));
+          (rw (n, pick-no (23 + k - shift code) p (eqb-no {a = k} {b = 0} (omega arith)))
+          at (headerOf-headerBytes code (23 + k) p rest (omega arith) (λ _. rw n l)));
     }
 
 -- What is read as a header is one.
-line-heading : {bs : List ℕ} {h : Header} → Headed bs h → (h .code ≡ 0 → 5 ≤ h .sz) → Heading (h .code) (h .payload) (headerBytes (h .code) (h .sz) (h .payload))
+line-heading : {bs : List ℕ} {h : Header} → Headed bs h → (h .code ≡ 0 → 5 ≤ h .sz)
+    → Heading (h .code) (h .payload) (headerBytes (h .code) (h .sz) (h .payload))
 unfolding headerBytes digits
 line-heading {bs} {h} d f =
     order 24 (h .sz)
@@ -77,7 +80,8 @@ line-heading {bs} {h} d f =
     (λ l.
     let n = following-short (h .code) (h .sz) l f in
     let e : h .payload + shift (h .code) ≡ h .sz =
-    rw (d .inside n) (equal (h .code) 0 (λ (z : h .code ≡ 0). omega (arith, f z, shift-zero (h .code) z)) (λ z. omega (arith, shift-other (h .code) z))) in
+    rw (d .inside n) (equal (h .code) 0 (λ (z : h .code ≡ 0). omega (arith, f z, shift-zero (h .code) z))
+    (λ z. omega (arith, shift-other (h .code) z))) in
     rw n (subst (λ (k : ℕ). Heading (h .code) (h .payload) ((h .code * 32 + k) ∷ [])) e (wire.inline (omega arith))))
 
 -- ---- from encodings to reading
@@ -92,34 +96,45 @@ space es x l = omega (arith, length-append (itemsOf es) (x ∷ []), length-items
 
 module _ {o : Options} {s : State} (lax : o .strict ≡ false) (rest : List ℕ) where
   -- An item with no content.
-  takes-plain : {c p k n : ℕ} {hs : List ℕ} → Heading c p hs → ((sz size : ℕ) → formOf (record { code = c; sz = sz; payload = p; size = size }) ≡ fixed k n)
+  takes-plain : {c p k n : ℕ} {hs : List ℕ} → Heading c p hs
+      → ((sz size : ℕ) → formOf (record { code = c; sz = sz; payload = p; size = size }) ≡ fixed k n)
       → May (s .place) (plain k n) → Vacant o s → Took o s (plain k n) (hs ++ rest) rest (itemsOf (s .entries))
   takes-plain {k = k} {n} {hs} h f m v =
       let l = heading-line h in
       took-fixed hs rest _ (plain k n) (l .read rest) refl (f (l .sz) (length hs)) (and-no-left _ lax) refl m v
 
   -- An item with content.
-  takes-held : {c : ℕ} {hs : List ℕ} (bs : List ℕ) → (c ≢ 0 → 4 ≤ c) → c < 7 → Heading c (length bs) hs → (isText (held (c + 5) bs) ≡ true → utf8 bs ≡ true)
+  takes-held : {c : ℕ} {hs : List ℕ} (bs : List ℕ) → (c ≢ 0 → 4 ≤ c) → c < 7 → Heading c (length bs) hs
+      → (isText (held (c + 5) bs) ≡ true → utf8 bs ≡ true)
       → (isName (held (c + 5) bs) ≡ true → length (s .entries) < max-entries)
-      → May (s .place) (held (c + 5) bs) → Vacant o s → Took o s (held (c + 5) bs) ((hs ++ bs) ++ rest) rest (grown (held (c + 5) bs) (itemsOf (s .entries)))
+      → May (s .place) (held (c + 5) bs) → Vacant o s
+      → Took o s (held (c + 5) bs) ((hs ++ bs) ++ rest) rest (grown (held (c + 5) bs) (itemsOf (s .entries)))
   takes-held {c} {hs} bs f b h u e m v =
       let l = heading-line h in
       rw (append-assoc hs bs rest)
-      (took-held hs rest _ (held (c + 5) bs) (l .read (bs ++ rest)) refl (form-held c (l .sz) (length bs) (length hs) f b (l .sized)) refl refl (and-no-left _ lax) u (λ z. clash z lax) e m v)
+      (took-held hs rest _ (held (c + 5) bs) (l .read (bs ++ rest)) refl
+      (form-held c (l .sz) (length bs) (length hs) f b (l .sized)) refl refl (and-no-left _ lax) u (λ z. clash z lax) e m v)
 
-  takes : {x : Item} {bs : List ℕ} {fs : List Item} → Encodes (itemsOf (s .entries)) x bs fs → May (s .place) x → Vacant o s → length fs ≤ max-entries → Took o s x (bs ++ rest) rest fs
+  takes : {x : Item} {bs : List ℕ} {fs : List Item} → Encodes (itemsOf (s .entries)) x bs fs → May (s .place) x
+      → Vacant o s → length fs ≤ max-entries → Took o s x (bs ++ rest) rest fs
   unfolding full following formOf pick grown isName isText digits
   takes (wire.simple {k} l) m v n =
       let f = fit-plain k 0 (omega arith) (omega arith) (λ _. refl) (λ q. absurd (omega arith)) (omega arith) (λ q. absurd (omega arith)) in
-      subst (λ (bs : List ℕ). Took o s (plain k 0) (bs ++ rest) rest (itemsOf (s .entries))) (full-simple k l) (took-small (plain k 0) rest (omega arith) f m v)
-  takes (wire.float32 {n = k} l) m v n = took-small (plain 3 k) rest (omega arith) (fit-plain 3 k (omega arith) (omega arith) (λ q. absurd (omega arith)) (λ _. l) (omega arith) (λ q. absurd (omega arith))) m v
-  takes (wire.float64 {n = k} l) m v n = took-small (plain 4 k) rest (omega arith) (fit-plain 4 k (omega arith) (omega arith) (λ q. absurd (omega arith)) (λ q. absurd (omega arith)) l (λ q. absurd (omega arith))) m v
+      subst (λ (bs : List ℕ). Took o s (plain k 0) (bs ++ rest) rest (itemsOf (s .entries))) (full-simple k l)
+      (took-small (plain k 0) rest (omega arith) f m v)
+  takes (wire.float32 {n = k} l) m v n = took-small (plain 3 k) rest (omega arith)
+      (fit-plain 3 k (omega arith) (omega arith) (λ q. absurd (omega arith)) (λ _. l) (omega arith)
+      (λ q. absurd (omega arith))) m v
+  takes (wire.float64 {n = k} l) m v n = took-small (plain 4 k) rest (omega arith)
+      (fit-plain 4 k (omega arith) (omega arith) (λ q. absurd (omega arith)) (λ q. absurd (omega arith)) l
+      (λ q. absurd (omega arith))) m v
   takes (wire.bytes {c = c} h) m v n = takes-held c (λ e. absurd (e refl)) (omega arith) h (λ z. clash z refl) (λ z. clash z refl) m v
   takes (wire.positive h) m v n = takes-plain h (λ sz size. refl) m v
   takes (wire.negative h) m v n = takes-plain h (λ sz size. refl) m v
   takes (wire.container h) m v n = takes-plain h (λ sz size. refl) m v
   takes (wire.string {c = c} h u) m v n = takes-held c (λ _. omega arith) (omega arith) h (λ _. u) (λ z. clash z refl) m v
-  takes (wire.symbol {c = c} h u) m v n = takes-held c (λ _. omega arith) (omega arith) h (λ _. u) (λ _. space (s .entries) (held 10 c) n) m v
+  takes (wire.symbol {c = c} h u) m v n = takes-held c (λ _. omega arith) (omega arith) h (λ _. u)
+      (λ _. space (s .entries) (held 10 c) n) m v
   takes (wire.key {c = c} h u) m v n = takes-held c (λ _. omega arith) (omega arith) h (λ _. u) (λ _. space (s .entries) (held 11 c) n) m v
   takes (wire.reference {i} {x} {h = hs} h e) m v n =
       let l = heading-line h in
@@ -144,18 +159,21 @@ all-longer wire.none = le-refl _
 all-longer (wire.more e r) = le-trans (encodes-longer e) (all-longer r)
 
 -- The encoding of items that follow is read.
-pub encodes-back : {o : Options} {es fs xs : List Item} {bs : List ℕ} (s : State) → o .strict ≡ false → EncodesAll es xs bs fs → itemsOf (s .entries) ≡ es → Follow (s .place) xs
+pub encodes-back : {o : Options} {es fs xs : List Item} {bs : List ℕ} (s : State) → o .strict ≡ false
+    → EncodesAll es xs bs fs → itemsOf (s .entries) ≡ es → Follow (s .place) xs
     → length (s .found) + length xs ≤ min max-rows (o .capacity) → length fs ≤ max-entries → Back o s xs bs fs
 encodes-back s lax wire.none q w r n = record { u = s; reads = done w; found = sym (append-nil (itemsOf (s .found))); entries = q }
 encodes-back {o} s lax (wire.more {fs = fs} {x = x} {xs} {bs} {cs} e es) q w r n =
-    let p = takes {o = o} {s = s} lax cs (subst (λ (l : List Item). Encodes l x bs fs) (sym q) e) (w .0) (omega arith) (le-trans (all-longer es) n) in
+    let p = takes {o = o} {s = s} lax cs (subst (λ (l : List Item). Encodes l x bs fs) (sym q) e) (w .0) (omega arith)
+    (le-trans (all-longer es) n) in
     let l = took-rows p in
     back-more x xs p (encodes-back (p .t) lax es (p .entries) (rw (p .place) (w .1)) (omega arith) n)
 
 -- ---- from reading to encodings
 
 -- codes 1 to 3
-number-encodes : {es : List Item} {p k n : ℕ} {hs : List ℕ} (c : ℕ) → 1 ≤ c → c ≤ 3 → k ≡ c + 5 → (c ≡ 2 → n ≡ min p (2 ^ 64 - 2)) → (c ≢ 2 → n ≡ p) → Heading c p hs → Encodes es (plain k n) hs es
+number-encodes : {es : List Item} {p k n : ℕ} {hs : List ℕ} (c : ℕ) → 1 ≤ c → c ≤ 3 → k ≡ c + 5
+    → (c ≡ 2 → n ≡ min p (2 ^ 64 - 2)) → (c ≢ 2 → n ≡ p) → Heading c p hs → Encodes es (plain k n) hs es
 number-encodes zero l m e f g h = absurd (omega arith)
 number-encodes (suc zero) l m e f g h = rw (e, g (omega arith)) (wire.positive h)
 number-encodes (suc (suc zero)) l m e f g h = rw (e, f refl) (wire.negative h)
@@ -163,7 +181,8 @@ number-encodes (suc (suc (suc zero))) l m e f g h = rw (e, g (omega arith)) (wir
 number-encodes (suc (suc (suc (suc c)))) l m e f g h = absurd (omega arith)
 
 -- codes 0, and 4 to 6
-held-encodes : {es : List Item} {k : ℕ} {hs : List ℕ} (c : ℕ) (bs : List ℕ) → (c ≢ 0 → 4 ≤ c) → c < 7 → k ≡ c + 5 → (9 ≤ k → utf8 bs ≡ true) → Heading c (length bs) hs
+held-encodes : {es : List Item} {k : ℕ} {hs : List ℕ} (c : ℕ) (bs : List ℕ) → (c ≢ 0 → 4 ≤ c) → c < 7 → k ≡ c + 5
+    → (9 ≤ k → utf8 bs ≡ true) → Heading c (length bs) hs
     → Encodes es (held k bs) (hs ++ bs) (grown (held k bs) es)
 unfolding grown isName pick
 held-encodes zero bs f l e u h = rw e (wire.bytes h)
@@ -175,7 +194,8 @@ held-encodes (suc (suc (suc (suc (suc zero))))) bs f l e u h = rw e (wire.symbol
 held-encodes (suc (suc (suc (suc (suc (suc zero)))))) bs f l e u h = rw e (wire.key h (u (omega arith)))
 held-encodes (suc (suc (suc (suc (suc (suc (suc c))))))) bs f l e u h = absurd (omega arith)
 
-fixed-encodes : {es : List Item} {bs : List ℕ} {h : Header} {k n : ℕ} → FormIs h (fixed k n) → Headed bs h → Encodes es (plain k n) (headerBytes (h .code) (h .sz) (h .payload)) es
+fixed-encodes : {es : List Item} {bs : List ℕ} {h : Header} {k n : ℕ} → FormIs h (fixed k n) → Headed bs h
+    → Encodes es (plain k n) (headerBytes (h .code) (h .sz) (h .payload)) es
 unfolding headerBytes digits isNegativeAlias
 fixed-encodes {h = h} {k} {n} (Forms.small c l e z) d =
     let q : h .code * 32 + h .sz ≡ k = omega arith in
@@ -190,7 +210,8 @@ fixed-encodes {h = h} {k} {n} (Forms.float c l m e z) d =
     let q : h .code * 32 + h .sz ≡ 4 = omega arith in
     rw (following-double (h .code) (h .sz) c four, q, e ∙ four, z) (wire.float64 (payload-lt d)))
 fixed-encodes {h = h} (Forms.number l m e z) d =
-    number-encodes (h .code) l m e (z .negative) (λ q. z .usual (and-no-left _ (eqb-no q)) (payload-lt d)) (line-heading d (λ q. absurd (omega arith)))
+    number-encodes (h .code) l m e (z .negative) (λ q. z .usual (and-no-left _ (eqb-no q)) (payload-lt d))
+    (line-heading d (λ q. absurd (omega arith)))
 
 -- The front of bytes encodes an item.
 record Piece (es : List Item) (x : Item) (bs rest : List ℕ) (fs : List Item) : Type 0 where
@@ -198,9 +219,11 @@ record Piece (es : List Item) (x : Item) (bs rest : List ℕ) (fs : List Item) :
   split : bs ≡ front ++ rest
   encodes : Encodes es x front fs
 
-content-piece : {bs : List ℕ} {h : Header} {k : ℕ} (es : List Item) → FormIs h (content k) → Headed bs h → h .payload ≤ length (drop (h .size) bs)
+content-piece : {bs : List ℕ} {h : Header} {k : ℕ} (es : List Item) → FormIs h (content k) → Headed bs h
+    → h .payload ≤ length (drop (h .size) bs)
     → (9 ≤ k → utf8 (take (h .payload) (drop (h .size) bs)) ≡ true)
-    → (x : Item) → record { kind = k; number = h .payload; content = take (h .payload) (drop (h .size) bs) } ≡ x → Piece es x bs (drop (h .size + h .payload) bs) (grown x es)
+    → (x : Item) → record { kind = k; number = h .payload; content = take (h .payload) (drop (h .size) bs) } ≡ x
+    → Piece es x bs (drop (h .size + h .payload) bs) (grown x es)
 content-piece {bs} {h} {k} es (Forms.held f g l e) d w u x q =
     let p = h .payload in
     let r = drop (h .size) bs in
@@ -209,7 +232,8 @@ content-piece {bs} {h} {k} es (Forms.held f g l e) d w u x q =
     subst (λ (y : Item). Piece es y bs (drop (h .size + p) bs) (grown y es)) (item-path refl len refl ∙ q)
     (record {
       front = hs ++ take p r;
-      split = d .bytes ∙ ap (λ (y : List ℕ). hs ++ y) (sym (take-append-drop p r) ∙ ap (λ (y : List ℕ). take p r ++ y) (drop-drop p (h .size) bs)) ∙ sym (append-assoc hs (take p r) _);
+      split = d .bytes ∙ ap (λ (y : List ℕ). hs ++ y) (sym (take-append-drop p r)
+          ∙ ap (λ (y : List ℕ). take p r ++ y) (drop-drop p (h .size) bs)) ∙ sym (append-assoc hs (take p r) _);
       encodes = held-encodes {hs = hs} (h .code) (take p r) g l e u (rw len (line-heading d f));
     })
 
@@ -217,7 +241,8 @@ form-piece : {bs : List ℕ} {h : Header} (f : Form) → FormIs h f → Headed b
     → itemOf f (h .payload) at (drop (h .size) bs) es ≡ some x
     → isContent f && ltb (length (drop (h .size) bs)) (h .payload) ≡ false
     → isContent f && isText (x .item) && not (utf8 (x .item .content)) ≡ false
-    → Piece (itemsOf es) (x .item) bs (drop (h .size + pick (isContent f) (h .payload) 0) bs) (pick (isContent f) (grown (x .item) (itemsOf es)) (itemsOf es))
+    → Piece (itemsOf es) (x .item) bs (drop (h .size + pick (isContent f) (h .payload) 0) bs)
+    (pick (isContent f) (grown (x .item) (itemsOf es)) (itemsOf es))
 unfolding itemOf isContent isText pick
 form-piece {bs} {h} (fixed k n) i d at es x e w t =
     subst (λ (y : Found). Piece (itemsOf es) (y .item) bs (drop (h .size + 0) bs) (itemsOf es)) (some-inj e)
@@ -231,21 +256,27 @@ form-piece {bs} {h} reference (Forms.referred l) d at es x e w t =
     record {
       front = headerBytes (h .code) (h .sz) (h .payload);
       split = rw (add-zero (h .size)) (d .bytes);
-      encodes = wire.reference (subst (λ (c : ℕ). Heading c (h .payload) (headerBytes (h .code) (h .sz) (h .payload))) seven (line-heading d (λ q. absurd (omega arith)))) (items-at es (h .payload) e);
+      encodes = wire.reference (subst (λ (c : ℕ). Heading c (h .payload) (headerBytes (h .code) (h .sz) (h .payload)))
+          seven (line-heading d (λ q. absurd (omega arith)))) (items-at es (h .payload) e);
     }
 
 entries-after : (s : State) (h : Header) (y : Found)
-    → itemsOf (after s h (formOf h) y .entries) ≡ pick (isContent (formOf h)) (grown (y .item) (itemsOf (s .entries))) (itemsOf (s .entries))
+    → itemsOf (after s h (formOf h) y .entries) ≡ pick (isContent (formOf h)) (grown (y .item) (itemsOf (s .entries)))
+    (itemsOf (s .entries))
 entries-after s h y =
-    cases (isContent (formOf h)) (λ c. entries-grown s h y (y .item) refl c ∙ sym (pick-yes _ _ c)) (λ c. entries-same s h y c ∙ sym (pick-no _ _ c))
+    cases (isContent (formOf h)) (λ c. entries-grown s h y (y .item) refl c ∙ sym (pick-yes _ _ c))
+    (λ c. entries-same s h y c ∙ sym (pick-no _ _ c))
 
-step-piece : {o : Options} {s t : State} {bs rest : List ℕ} → Bytes bs → (p : Step o s bs t rest) → Piece (itemsOf (s .entries)) (p .x .item) bs rest (itemsOf (t .entries))
+step-piece : {o : Options} {s t : State} {bs rest : List ℕ} → Bytes bs → (p : Step o s bs t rest)
+    → Piece (itemsOf (s .entries)) (p .x .item) bs rest (itemsOf (t .entries))
 step-piece {s = s} {bs = bs} b p =
     rw (step-left p, p .next, entries-after s (p .h) (p .x))
-    (form-piece (formOf (p .h)) (form-is (p .h)) (headed-of bs (p .h) b (p .headed)) _ (s .entries) (p .x) (p .meant) (p .passed .whole) (p .passed .text))
+    (form-piece (formOf (p .h)) (form-is (p .h)) (headed-of bs (p .h) b (p .headed)) _ (s .entries) (p .x) (p .meant)
+    (p .passed .whole) (p .passed .text))
 
 -- What was read encodes its items.
-pub reads-encodes : {o : Options} {s u : State} {bs : List ℕ} (r : Reads o s bs u) → Bytes bs → EncodesAll (itemsOf (s .entries)) (readItems r) bs (itemsOf (u .entries))
+pub reads-encodes : {o : Options} {s u : State} {bs : List ℕ} (r : Reads o s bs u) → Bytes bs
+    → EncodesAll (itemsOf (s .entries)) (readItems r) bs (itemsOf (u .entries))
 unfolding readItems
 reads-encodes (done e) b = wire.none
 reads-encodes (more {s = s} {t = t} {bs = bs} p r) b =
@@ -272,9 +303,11 @@ readable o {xs} bs b e =
       few = reading-entries o bs p;
     }
 
-readable-back : (o : Options) {xs : List Item} {bs : List ℕ} → o .strict ≡ false → (r : Readable (o .capacity) bs xs) → Back o start xs bs (r .entries)
+readable-back : (o : Options) {xs : List Item} {bs : List ℕ} → o .strict ≡ false → (r : Readable (o .capacity) bs xs)
+    → Back o start xs bs (r .entries)
 unfolding start itemsOf
-readable-back o {xs} lax r = encodes-back start lax (r .encoded) refl (grammar-law xs .accepts (r .grammar) .0) (omega (arith, r .rows, r .table)) (r .few)
+readable-back o {xs} lax r = encodes-back start lax (r .encoded) refl (grammar-law xs .accepts (r .grammar) .0)
+    (omega (arith, r .rows, r .table)) (r .few)
 
 pub readable-items : (o : Options) {xs : List Item} {bs : List ℕ} → o .strict ≡ false → Readable (o .capacity) bs xs → items o bs ≡ good xs
 unfolding start itemsOf
@@ -288,5 +321,6 @@ readable-counts o {xs} {bs} lax r =
     let e = reads-reading (r .size) (k .reads) in
     let rows : length (k .u .found) ≡ length xs = sym (length-items (k .u .found)) ∙ ap length (k .found) in
     let entries : length (k .u .entries) ≡ length (r .entries) = sym (length-items (k .u .entries)) ∙ ap length (k .entries) in
-    let fields : k .u .place .fields ≡ r .fields = reading-fields o bs e ∙ ap fieldsOf (k .found) ∙ grammar-law xs .accepts (r .grammar) .1 in
+    let fields : k .u .place .fields ≡ r .fields = reading-fields o bs e ∙ ap fieldsOf (k .found)
+    ∙ grammar-law xs .accepts (r .grammar) .1 in
     rw e (λ j. good (record { rows = rows j; entries = entries j; fields = fields j }))

@@ -36,7 +36,8 @@ pub record Turn (o : Options) (s : List ℕ) (a u : State) (h : Header) : Type 0
   pub later : List Item
   pub all : itemsOf (u .found) ≡ itemsOf (a .found) ++ (y .item ∷ later)
 
-turns : {o : Options} (s : List ℕ) (h : Header) {a u : State} {bs : List ℕ} → Reads o a bs u → bs ≡ drop (a .at) s → some h ≡ headerOf bs → Turn o s a u h
+turns : {o : Options} (s : List ℕ) (h : Header) {a u : State} {bs : List ℕ} → Reads o a bs u → bs ≡ drop (a .at) s
+    → some h ≡ headerOf bs → Turn o s a u h
 unfolding headerOf
 turns s h (done d) q e = none-some (sym e)
 turns {o} s h {a} (more {t = t} {u = u} {bs = bs} p v) q e =
@@ -47,16 +48,19 @@ turns {o} s h {a} (more {t = t} {u = u} {bs = bs} p v) q e =
       y = p .x;
       headed = rw q at (sym e);
       is = rw q at (step-item p);
-      meant = subst (λ (g : Header). itemOf (formOf g) (g .payload) (a .at + g .size) (drop (a .at + g .size) s) (a .entries) ≡ some (p .x)) k (rw b at (p .meant));
+      meant = subst (λ (g : Header). itemOf (formOf g) (g .payload) (a .at + g .size) (drop (a .at + g .size) s)
+          (a .entries) ≡ some (p .x)) k (rw b at (p .meant));
       passed = subst (λ (g : Header). Passed o a g (drop (a .at + g .size) s) (p .x .item)) k (rw b at (p .passed));
       goes = p .next ∙ ap (λ (g : Header). after a g (formOf g) (p .x)) k;
       reads = rw (step-drop s q p) at (reads-run v);
       within = omega (arith, step-within p, ap length q ∙ length-drop (a .at) s, size-within bs (p .h) (p .headed));
       later = readItems v;
-      all = reads-found v ∙ ap (λ (l : List Item). l ++ readItems v) (ap itemsOf (step-found p) ∙ items-snoc (a .found) (p .x)) ∙ append-assoc (itemsOf (a .found)) (p .x .item ∷ []) (readItems v);
+      all = reads-found v ∙ ap (λ (l : List Item). l ++ readItems v) (ap itemsOf (step-found p)
+          ∙ items-snoc (a .found) (p .x)) ∙ append-assoc (itemsOf (a .found)) (p .x .item ∷ []) (readItems v);
     }
 
-pub turn : {o : Options} (s : List ℕ) {a u : State} {h : Header} → run o a 0 (drop (a .at) s) ≡ good u → some h ≡ headerOf (drop (a .at) s) → Turn o s a u h
+pub turn : {o : Options} (s : List ℕ) {a u : State} {h : Header} → run o a 0 (drop (a .at) s) ≡ good u
+    → some h ≡ headerOf (drop (a .at) s) → Turn o s a u h
 turn s {h = h} r e = turns s h (run-reads _ r) refl e
 
 module _ {o : Options} {s : List ℕ} {a u : State} {h : Header} (w : Turn o s a u h) where
@@ -106,7 +110,8 @@ module _ {o : Options} {s : List ℕ} {a u : State} {h : Header} (w : Turn o s a
       form-fixed h c l
       ∙ ap (fixed (h .sz))
       (order Kind.float32 (h .sz) (λ g. pick-no _ _ (ltb-no g))
-      (λ g. pick-yes _ _ (ltb-yes g) ∙ omega (arith, header-inside _ h (w .headed) (following-small (h .code) (h .sz) c g), shift-zero (h .code) c)))
+      (λ g. pick-yes _ _ (ltb-yes g)
+      ∙ omega (arith, header-inside _ h (w .headed) (following-small (h .code) (h .sz) c g), shift-zero (h .code) c)))
 
   pub fixed-is : {k n : ℕ} → formOf h ≡ fixed k n → w .y ≡ record { item = record { kind = k; number = n; content = [] }; start = 0 }
   unfolding itemOf
@@ -117,7 +122,10 @@ module _ {o : Options} {s : List ℕ} {a u : State} {h : Header} (w : Turn o s a
   reference-is e = rw e at (w .meant)
 
   module _ {k : ℕ} (e : formOf h ≡ content k) where
-    pub content-is : w .y ≡ record { item = record { kind = k; number = h .payload; content = take (h .payload) (drop (a .at + h .size) s) }; start = a .at + h .size }
+    pub content-is : w .y ≡ record {
+      item = record { kind = k; number = h .payload; content = take (h .payload) (drop (a .at + h .size) s) };
+      start = a .at + h .size;
+    }
     unfolding itemOf
     content-is = sym (some-inj (rw e at (w .meant)))
 
@@ -152,7 +160,8 @@ headed : {o : Options} {a u : State} {bs : List ℕ} → Reads o a bs u → 0 < 
 headed (done d) l = absurd (omega arith)
 headed (more p v) l = (p .h, p .headed)
 
-found-front : {o : Options} {a u : State} {bs : List ℕ} → Reads o a bs u → (xs : List Found) × (u .found ≡ a .found ++ xs) × (0 < length bs → 0 < length xs)
+found-front : {o : Options} {a u : State} {bs : List ℕ} → Reads o a bs u → (xs : List Found)
+    × (u .found ≡ a .found ++ xs) × (0 < length bs → 0 < length xs)
 found-front (done {s = a} d) = ([], sym (append-nil (a .found)), λ l. l)
 found-front (more {s = a} p v) =
     let (xs, e, _) = found-front v in

@@ -53,7 +53,8 @@ module _ (o : Options) where
     -- The first limit that is passed gives the error, with place 0 and side 0.
     pub rows-first : max-rows < length (xs ++ ys) → r ≡ Failed (failure TooManyRows 0)
     pub names-next : length (xs ++ ys) ≤ max-rows → max-entries < length (namesFrom [] (xs ++ ys)) → r ≡ Failed (failure TooManyEntries 0)
-    pub size-last : length (xs ++ ys) ≤ max-rows → length (namesFrom [] (xs ++ ys)) ≤ max-entries → Refused r → r ≡ Failed (failure OutputTooLong 0)
+    pub size-last : length (xs ++ ys) ≤ max-rows → length (namesFrom [] (xs ++ ys)) ≤ max-entries → Refused r
+        → r ≡ Failed (failure OutputTooLong 0)
 
   -- ---- the empty bundle and another
 
@@ -61,7 +62,8 @@ module _ (o : Options) where
   pub record Yields (xs : List Item) (old : List ℕ) (r : Written) (new : List ℕ) : Type 0 where
     pub yields : Writes (fitted (length old) (canonical xs)) old r new
     -- The same, case by case: it is written and its length answered, or it is refused and no byte is changed.
-    pub fits : length (canonical xs) ≤ min max-bytes (length old) → (r ≡ Done (length (canonical xs))) × (new ≡ canonical xs ++ drop (length (canonical xs)) old)
+    pub fits : length (canonical xs) ≤ min max-bytes (length old) → (r ≡ Done (length (canonical xs)))
+        × (new ≡ canonical xs ++ drop (length (canonical xs)) old)
     pub over : min max-bytes (length old) < length (canonical xs) → (r ≡ Failed (failure OutputTooLong 0)) × (new ≡ old)
 
   -- ---- three bundles
@@ -90,12 +92,15 @@ module _ (o : Options) where
   -- ---- demand 3, whole
 
   pub record Demand3 : Type 0 where
-    pub two : {a b old new : List ℕ} {xs ys : List Item} {r : Written} → Means o a xs → Means o b ys → Joins a b old r new → OfTwo xs ys old r new
+    pub two : {a b old new : List ℕ} {xs ys : List Item} {r : Written} → Means o a xs → Means o b ys
+        → Joins a b old r new → OfTwo xs ys old r new
     -- The empty bundle on either side yields the other's canonical encoding, within those limits.
     pub empty-first : {a old new : List ℕ} {xs : List Item} {r : Written} → Means o a xs → Joins [] a old r new → Yields xs old r new
     pub empty-second : {a old new : List ℕ} {xs : List Item} {r : Written} → Means o a xs → Joins a [] old r new → Yields xs old r new
     pub three : {a b c : List ℕ} {xs ys zs : List Item} → Means o a xs → Means o b ys → Means o c zs → OfThree a b c xs ys zs
     -- A bundle that does not read is refused with its own number and place, the first one first.
-    pub unread-first : (a b : List ℕ) {old new : List ℕ} {f : Failure} {r : Written} → items o a ≡ failed f → Joins a b old r new → Unread f 1 old r new
-    pub unread-second : (a b : List ℕ) {old new : List ℕ} {xs : List Item} {f : Failure} {r : Written} → items o a ≡ good xs → items o b ≡ failed f
+    pub unread-first : (a b : List ℕ) {old new : List ℕ} {f : Failure} {r : Written} → items o a ≡ failed f
+        → Joins a b old r new → Unread f 1 old r new
+    pub unread-second : (a b : List ℕ) {old new : List ℕ} {xs : List Item} {f : Failure} {r : Written}
+        → items o a ≡ good xs → items o b ≡ failed f
         → Joins a b old r new → Unread f 2 old r new

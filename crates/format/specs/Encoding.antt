@@ -32,15 +32,18 @@ pub data Encodes (es : List Item) : Item → List ℕ → List Item → Type 0 w
   container : {n : ℕ} {h : List ℕ} → Heading Code.container n h → Encodes es (plain Kind.container n) h es
   string : {h c : List ℕ} → Heading Code.string (length c) h → utf8 c ≡ true → Encodes es (held Kind.string c) (h ++ c) es
   -- a name in full makes an entry
-  symbol : {h c : List ℕ} → Heading Code.symbol (length c) h → utf8 c ≡ true → Encodes es (held Kind.symbol c) (h ++ c) (es ++ (held Kind.symbol c ∷ []))
-  key : {h c : List ℕ} → Heading Code.key (length c) h → utf8 c ≡ true → Encodes es (held Kind.key c) (h ++ c) (es ++ (held Kind.key c ∷ []))
+  symbol : {h c : List ℕ} → Heading Code.symbol (length c) h → utf8 c ≡ true
+      → Encodes es (held Kind.symbol c) (h ++ c) (es ++ (held Kind.symbol c ∷ []))
+  key : {h c : List ℕ} → Heading Code.key (length c) h → utf8 c ≡ true
+      → Encodes es (held Kind.key c) (h ++ c) (es ++ (held Kind.key c ∷ []))
   -- a reference is the item of its entry, and makes none
   reference : {i : ℕ} {x : Item} {h : List ℕ} → Heading Code.reference i h → getElem? es i ≡ some x → Encodes es x h es
 
 -- Items one after the other, from one table to another.
 pub data EncodesAll : List Item → List Item → List ℕ → List Item → Type 0 where
   none : {es : List Item} → EncodesAll es [] [] es
-  more : {es fs gs : List Item} {x : Item} {xs : List Item} {bs cs : List ℕ} → Encodes es x bs fs → EncodesAll fs xs cs gs → EncodesAll es (x ∷ xs) (bs ++ cs) gs
+  more : {es fs gs : List Item} {x : Item} {xs : List Item} {bs cs : List ℕ} → Encodes es x bs fs
+      → EncodesAll fs xs cs gs → EncodesAll es (x ∷ xs) (bs ++ cs) gs
 
 -- Bytes that are a bundle of items: they encode them, the items are whole fields, and all is within the limits and a table of n rows.
 pub record Readable (n : ℕ) (bs : List ℕ) (xs : List Item) : Type 0 where

@@ -34,7 +34,8 @@ JoiningExamples =
     -- a bundle joined with itself: the names are shared
     (joining lenient job job 12 ≡ good two-jobs)
     -- the second bundle's entries get the numbers of their names: its 0 is 1, and its 1 is 0
-    × (joining lenient (0xa1 ∷ 0x64 ∷ 0xa1 ∷ 0x6d ∷ []) (0xa1 ∷ 0x6d ∷ 0xa1 ∷ 0x64 ∷ 0xe0 ∷ 0xe1 ∷ []) 99 ≡ good (0xa1 ∷ 0x64 ∷ 0xa1 ∷ 0x6d ∷ 0xe1 ∷ 0xe0 ∷ 0xe1 ∷ 0xe0 ∷ []))
+    × (joining lenient (0xa1 ∷ 0x64 ∷ 0xa1 ∷ 0x6d ∷ []) (0xa1 ∷ 0x6d ∷ 0xa1 ∷ 0x64 ∷ 0xe0 ∷ 0xe1 ∷ []) 99
+    ≡ good (0xa1 ∷ 0x64 ∷ 0xa1 ∷ 0x6d ∷ 0xe1 ∷ 0xe0 ∷ 0xe1 ∷ 0xe0 ∷ []))
     -- a bundle that does not read, on side 1 and on side 2; of two, the first
     × (joining lenient bad-reference job 99 ≡ failed (refused UndefinedReference 5 1))
     × (joining lenient job bad-string 99 ≡ failed (refused InvalidUtf8 6 2))
@@ -54,5 +55,9 @@ JoiningExamples =
     × (canonicalizing bad-string 99 ≡ failed (refused InvalidUtf8 6 0))
 
 pub joining-examples : JoiningExamples
-unfolding pick rule first fail unless then onSide bigEndian digits shift following payloadOf headerOf widthFrom width header isLong isNegativeAlias within leads goodAfter utf8 isText isName isKey isContainer same sameName indexFrom index isSome added noted namesFrom top ended moved due itemsOf start formOf isContent itemOf isMissing orNull itemRules after headed item ending run reading items full named encoded canonicalFrom canonical fitted together joining canonicalizing
+unfolding pick rule first fail unless then onSide bigEndian digits shift following payloadOf headerOf widthFrom width
+    header isLong isNegativeAlias within leads goodAfter utf8 isText isName isKey isContainer same sameName indexFrom
+    index isSome added noted namesFrom top ended moved due itemsOf start formOf isContent itemOf isMissing orNull
+    itemRules after headed item ending run reading items full named encoded canonicalFrom canonical fitted together
+    joining canonicalizing
 joining-examples = (refl, refl, refl, refl, refl, refl, refl, refl, refl, refl, refl, refl, refl)

@@ -1,4 +1,5 @@
--- Examples of reading: each row marked T of document 01's "Messages to try", each kind of item, each refusal with its place, and inputs that two rules apply to.
+-- Examples of reading: each row marked T of document 01's "Messages to try", each kind of item, each refusal with its
+-- place, and inputs that two rules apply to.
 use Prim.Native.Nat.{ℕ, _^_, _-_}
 use mathlib.Core.Path.{_≡_, refl}
 use mathlib.Core.List.{List, [], _∷_, _++_, map}
@@ -173,7 +174,12 @@ Refusals =
 -- seven items were read, in 300 bytes, and there are 256 entries
 abbrev all-entries : State
 all-entries =
-    record { at = 300; place = top; entries = map (λ (x : Item). record { item = x; start = 0 }) names-items; found = replicate 7 (record { item = null; start = 0 }) }
+    record {
+      at = 300;
+      place = top;
+      entries = map (λ (x : Item). record { item = x; start = 0 }) names-items;
+      found = replicate 7 (record { item = null; start = 0 });
+    }
 
 -- Two rules apply, and the first of them refuses. The order of the list in `itemRules` follows, but for rules of which no item breaks both.
 abbrev pub Orders : Type 0
@@ -214,7 +220,10 @@ abbrev pub ReadingExamples : Type 0
 ReadingExamples = Messages × Kinds × Refusals × Orders
 
 pub reading-examples : ReadingExamples
-unfolding pick rule first fail unless then bigEndian digits shift following payloadOf headerOf widthFrom width header isLong isNegativeAlias within leads goodAfter utf8 isText isName isKey isContainer same sameName indexFrom index isSome added noted top ended moved due itemsOf start formOf isContent itemOf isMissing orNull itemRules after headed item ending run reading items countsOf counts rowOf rows full named encoded canonicalFrom canonical fitted canonicalizing
+unfolding pick rule first fail unless then bigEndian digits shift following payloadOf headerOf widthFrom width header
+    isLong isNegativeAlias within leads goodAfter utf8 isText isName isKey isContainer same sameName indexFrom index
+    isSome added noted top ended moved due itemsOf start formOf isContent itemOf isMissing orNull itemRules after headed
+    item ending run reading items countsOf counts rowOf rows full named encoded canonicalFrom canonical fitted canonicalizing
 reading-examples = (
   (refl, refl, refl, refl, refl, refl, refl, refl, refl, refl, refl, refl, refl, refl, refl, refl),
   (refl, refl, refl, refl, refl, refl, refl, refl, refl, refl, refl, refl),

@@ -151,7 +151,9 @@ abbrev pub WritingExamples : Type 0
 WritingExamples = Results × Refusals × Orders
 
 pub writing-examples : WritingExamples
-unfolding pick rule first fail unless then counted digits shift following widthFrom width header within leads goodAfter utf8 hasContent isText isName isKey isContainer same sameName indexFrom index isSome added noted top ended moved due full named encoded canonicalFrom canonical fitted contentOf itemAt isBad begin withItem rowRules judge writing
+unfolding pick rule first fail unless then counted digits shift following widthFrom width header within leads goodAfter
+    utf8 hasContent isText isName isKey isContainer same sameName indexFrom index isSome added noted top ended moved due
+    full named encoded canonicalFrom canonical fitted contentOf itemAt isBad begin withItem rowRules judge writing
 writing-examples = (
   (refl, refl, refl, refl, refl, refl, refl, refl, refl, refl, refl),
   (refl, refl, refl, refl, refl, refl, refl, refl, refl, refl, refl, refl, refl, refl, refl, refl, refl, refl, refl, refl, refl, refl, refl, refl, refl, refl, refl, refl, refl, refl, refl, refl, refl, refl, refl, refl, refl, refl),

@@ -54,7 +54,8 @@ module _ (p : Place) (x : Item) where
 
 -- ---- an item with no content
 
-module _ {s es : List ℕ} {at names keyed next : ℕ} {h : Header} {o : Options} {a : State} (bs : List ℕ) (cs : Case s es at names keyed next h o a)
+module _ {s es : List ℕ} {at names keyed next : ℕ} {h : Header} {o : Options} {a : State} (bs : List ℕ)
+    (cs : Case s es at names keyed next h o a)
     (f : Form) (ef : formOf h ≡ f) (flat : isContent f ≡ false)
     (x : Found) (ex : itemOf f (h .payload) (a .at + h .size) (drop (h .size) bs) (a .entries) ≡ some x) where
   at-later : headed o a (some h) bs ≡ later o a h f (drop (h .size) bs) (x .item) (after a h f x)
@@ -63,10 +64,12 @@ module _ {s es : List ℕ} {at names keyed next : ℕ} {h : Header} {o : Options
   pub flat-again : keyAfterKey (a .place) (x .item) ≡ true → headed o a (some h) bs ≡ fail UnexpectedKey (a .at)
   flat-again e = at-later ∙ pick-yes _ _ e
 
-  pub flat-deep : keyAfterKey (a .place) (x .item) ≡ false → tooDeep (a .place) (x .item) ≡ true → headed o a (some h) bs ≡ fail TooDeep (a .at)
+  pub flat-deep : keyAfterKey (a .place) (x .item) ≡ false → tooDeep (a .place) (x .item) ≡ true
+      → headed o a (some h) bs ≡ fail TooDeep (a .at)
   flat-deep k e = at-later ∙ pick-no _ _ k ∙ pick-yes _ _ e
 
-  pub flat-goes : keyAfterKey (a .place) (x .item) ≡ false → tooDeep (a .place) (x .item) ≡ false → (b : ℕ) (p : Place) → moved (a .place) (x .item) ≡ p → p .keyed ≡ eqb b 1
+  pub flat-goes : keyAfterKey (a .place) (x .item) ≡ false → tooDeep (a .place) (x .item) ≡ false → (b : ℕ) (p : Place)
+      → moved (a .place) (x .item) ≡ p → p .keyed ≡ eqb b 1
       → Goes o s es next names b p a (headed o a (some h) bs)
   unfolding after
   flat-goes key deep b p e k =
@@ -95,14 +98,16 @@ pub record Plain (h : Header) : Type 0 where
   pub form : formOf h ≡ fixed kind number
   pub small : kind ≤ 7
 
-pub fixed-value : {s es : List ℕ} {at names keyed next : ℕ} {h : Header} {o : Options} {a : State} (bs : List ℕ) → Case s es at names keyed next h o a → Plain h
+pub fixed-value : {s es : List ℕ} {at names keyed next : ℕ} {h : Header} {o : Options} {a : State} (bs : List ℕ)
+    → Case s es at names keyed next h o a → Plain h
     → Judged o s es names a (headed o a (some h) bs) (out.Value next)
 unfolding itemOf isContent
 fixed-value {a = a} bs cs p =
     let x = bare (p .kind) (p .number) .item in
     let key : isKey x ≡ false = not-key x (λ e. omega (arith, p .small)) in
     let box : isContainer x ≡ false = not-container x (λ e. omega (arith, p .small)) in
-    flat-goes bs cs _ (p .form) refl (bare (p .kind) (p .number)) refl (and-no-right (a .place .keyed) key) (and-no-left _ box) 0 _ (moved-value (a .place) x key (and-no-left _ box)) (ended-keyed _ _)
+    flat-goes bs cs _ (p .form) refl (bare (p .kind) (p .number)) refl (and-no-right (a .place .keyed) key)
+    (and-no-left _ box) 0 _ (moved-value (a .place) x key (and-no-left _ box)) (ended-keyed _ _)
 
 pub plain-small : (h : Header) → h .code ≡ 0 → h .sz < 5 → Plain h
 plain-small h e l = record { kind = h .sz; number = pick (ltb (h .sz) 3) 0 (h .payload); form = form-fixed h e l; small = omega arith }
@@ -110,11 +115,17 @@ plain-small h e l = record { kind = h .sz; number = pick (ltb (h .sz) 3) 0 (h .p
 pub plain-integer : (h : Header) → leb 1 (h .code) && leb (h .code) 2 ≡ true → Plain h
 plain-integer h e =
     let w = code-within 1 2 (h .code) e in
-    record { kind = h .code + 5; number = numberOf (h .code) (h .payload); form = form-number h (omega arith) (omega arith); small = omega arith }
+    record {
+      kind = h .code + 5;
+      number = numberOf (h .code) (h .payload);
+      form = form-number h (omega arith) (omega arith);
+      small = omega arith;
+    }
 
 -- ---- containers
 
-module _ {s es : List ℕ} {at names keyed next : ℕ} {h : Header} {o : Options} {a : State} (bs : List ℕ) (cs : Case s es at names keyed next h o a) (code : h .code ≡ 3) where
+module _ {s es : List ℕ} {at names keyed next : ℕ} {h : Header} {o : Options} {a : State} (bs : List ℕ)
+    (cs : Case s es at names keyed next h o a) (code : h .code ≡ 3) where
   box : Item
   box = bare 8 (h .payload) .item
 
@@ -128,29 +139,38 @@ module _ {s es : List ℕ} {at names keyed next : ℕ} {h : Header} {o : Options
 
   pub container-deep : max-depth ≤ length (a .place .opened) → Judged o s es names a (headed o a (some h) bs) (out.Bad TooDeep)
   unfolding itemOf isContent box
-  container-deep l = flat-deep bs cs _ (form-container h code) refl (bare 8 (h .payload)) refl (and-no-right (a .place .keyed) box-key) (and-yes box-is (leb-yes l))
+  container-deep l = flat-deep bs cs _ (form-container h code) refl (bare 8 (h .payload)) refl
+      (and-no-right (a .place .keyed) box-key) (and-yes box-is (leb-yes l))
 
   module _ (d : length (a .place .opened) < max-depth) where
     container-goes : (p : Place) → moved (a .place) box ≡ p → p .keyed ≡ false → Goes o s es next names 0 p a (headed o a (some h) bs)
     unfolding itemOf isContent box
-    container-goes p e k = flat-goes bs cs _ (form-container h code) refl (bare 8 (h .payload)) refl (and-no-right (a .place .keyed) box-key) (and-no-right (isContainer box) (leb-no d)) 0 p e k
+    container-goes p e k = flat-goes bs cs _ (form-container h code) refl (bare 8 (h .payload)) refl
+        (and-no-right (a .place .keyed) box-key) (and-no-right (isContainer box) (leb-no d)) 0 p e k
 
     pub container-empty : h .payload ≡ 0 → Judged o s es names a (headed o a (some h) bs) (out.Value next)
     unfolding box
-    container-empty z = container-goes _ (moved-value (a .place) box box-key (and-no-right (isContainer box) (ltb-no {a = 0} {b = h .payload} (omega arith)))) (ended-keyed _ _)
+    container-empty z = container-goes _
+        (moved-value (a .place) box box-key
+        (and-no-right (isContainer box) (ltb-no {a = 0} {b = h .payload} (omega arith)))) (ended-keyed _ _)
 
-    pub container-held : (n : FieldCount) → n .0 ≡ h .payload → h .payload ≢ 0 → Judged o s es names a (headed o a (some h) bs) (out.Container n next)
+    pub container-held : (n : FieldCount) → n .0 ≡ h .payload → h .payload ≢ 0
+        → Judged o s es names a (headed o a (some h) bs) (out.Container n next)
     unfolding box
     container-held n e z =
-        container-goes _ (moved-held (a .place) box box-key (and-yes box-is (ltb-yes {a = 0} {b = h .payload} (omega (arith, z)))) ∙ ap (λ (k : ℕ). spot (k ∷ a .place .opened) false (a .place .fields)) (sym e)) refl
+        container-goes _ (moved-held (a .place) box box-key
+        (and-yes box-is (ltb-yes {a = 0} {b = h .payload} (omega (arith, z))))
+        ∙ ap (λ (k : ℕ). spot (k ∷ a .place .opened) false (a .place .fields)) (sym e)) refl
 
 -- ---- references
 
-module _ {s es : List ℕ} {at names keyed next : ℕ} {h : Header} {o : Options} {a : State} (bs : List ℕ) (cs : Case s es at names keyed next h o a) (code : h .code ≡ 7)
+module _ {s es : List ℕ} {at names keyed next : ℕ} {h : Header} {o : Options} {a : State} (bs : List ℕ)
+    (cs : Case s es at names keyed next h o a) (code : h .code ≡ 7)
     (size : length es ≡ 256) (few : names ≤ 256) where
   pub reference-missing : names ≤ h .payload → Judged o s es names a (headed o a (some h) bs) (out.Bad UndefinedReference)
   unfolding itemOf
-  reference-missing l = missing o a h bs reference (form-reference h (omega arith)) (cs .short) (rw (cs .stands .entries) (entry-none s es names size few (h .payload) l))
+  reference-missing l = missing o a h bs reference (form-reference h (omega arith)) (cs .short)
+      (rw (cs .stands .entries) (entry-none s es names size few (h .payload) l))
 
   module _ (l : h .payload < names) (e : ℕ) (ee : getD es (h .payload) 0 ≡ e) where
     found : Found
@@ -175,7 +195,8 @@ module _ {s es : List ℕ} {at names keyed next : ℕ} {h : Header} {o : Options
     unfolding isContent
     reference-value z =
         let key : isKey (found .item) ≡ false = key-is ∙ z in
-        flat-goes bs cs _ (form-reference h (omega arith)) refl found meant (and-no-right (a .place .keyed) key) (and-no-left _ no-box) 0 _ (moved-value (a .place) (found .item) key (and-no-left _ no-box)) (ended-keyed _ _)
+        flat-goes bs cs _ (form-reference h (omega arith)) refl found meant (and-no-right (a .place .keyed) key)
+        (and-no-left _ no-box) 0 _ (moved-value (a .place) (found .item) key (and-no-left _ no-box)) (ended-keyed _ _)
 
     module _ (z : eqb (kindIn e) Kind.key ≡ true) where
       a-key : isKey (found .item) ≡ true
@@ -188,4 +209,6 @@ module _ {s es : List ℕ} {at names keyed next : ℕ} {h : Header} {o : Options
       pub reference-key : keyed ≢ 1 → Judged o s es names a (headed o a (some h) bs) (out.Key next)
       unfolding isContent
       reference-key k =
-          flat-goes bs cs _ (form-reference h (omega arith)) refl found meant (and-no-left _ (cs .stands .key ∙ eqb-no k)) (and-no-left _ no-box) 1 _ (moved-key (a .place) (found .item) a-key) refl
+          flat-goes bs cs _ (form-reference h (omega arith)) refl found meant
+          (and-no-left _ (cs .stands .key ∙ eqb-no k)) (and-no-left _ no-box) 1 _
+          (moved-key (a .place) (found .item) a-key) refl

@@ -25,7 +25,8 @@ pub record Standing (s : List ℕ) (at : ℕ) (h : Header) : Type 0 where
   pub some : 0 < h .size
   pub codes : h .code < 8
 
-pub standing : (s : List ℕ) (at : ℕ) (h : Header) → at ≤ length s → ((i : ℕ) → getD s i 0 < 256) → some h ≡ headerOf (drop at s) → Standing s at h
+pub standing : (s : List ℕ) (at : ℕ) (h : Header) → at ≤ length s → ((i : ℕ) → getD s i 0 < 256)
+    → some h ≡ headerOf (drop at s) → Standing s at h
 standing s at h l b e =
     let w = size-within (drop at s) h (sym e) in
     let d = length-drop at s in
@@ -36,7 +37,8 @@ standing s at h l b e =
     }
 
 -- A header of one byte is the shortest, and no alias.
-pub one-byte : (s : List ℕ) (at : ℕ) (h : Header) → ((i : ℕ) → getD s i 0 < 256) → some h ≡ headerOf (drop at s) → h .size ≡ 1 → isLong h || isNegativeAlias h ≡ false
+pub one-byte : (s : List ℕ) (at : ℕ) (h : Header) → ((i : ℕ) → getD s i 0 < 256) → some h ≡ headerOf (drop at s)
+    → h .size ≡ 1 → isLong h || isNegativeAlias h ≡ false
 unfolding isLong isNegativeAlias
 one-byte s at h b e z =
     let d = headed-of (drop at s) h (all-drop Byte at s (bytes-of s (λ i _. b i))) (sym e) in
@@ -44,13 +46,20 @@ one-byte s at h b e z =
     let l = following-none (h .code) (h .sz) n in
     rw (ltb-no {a = max-inline} {b = h .sz} (omega arith), eqb-no {a = h .payload} {b = 2 ^ 64 - 1} (λ q. absurd (omega (arith, d .inside n))), and-false)
 
-pub past-header : {strict : Bool} {s es links : List ℕ} {at names : ℕ} {h : Header} → Standing s at h → Fair strict s es links names → Moved strict s es links at (at + h .size) names
+pub past-header : {strict : Bool} {s es links : List ℕ} {at names : ℕ} {h : Header} → Standing s at h
+    → Fair strict s es links names → Moved strict s es links at (at + h .size) names
 past-header st f = record { on = omega (arith, st .some); within = st .inside; fair = f }
 
-pub case : {strict : Bool} {s es : List ℕ} {at names keyed : ℕ} {h : Header} {o : Options} {a : State} → o .strict ≡ strict → strict && (isLong h || isNegativeAlias h) ≡ false → Stands s es at names keyed a
+pub case : {strict : Bool} {s es : List ℕ} {at names keyed : ℕ} {h : Header} {o : Options} {a : State}
+    → o .strict ≡ strict → strict && (isLong h || isNegativeAlias h) ≡ false → Stands s es at names keyed a
     → Case s es at names keyed (at + h .size) h o a
-case {h = h} so e st = record { short = subst (λ (b : Bool). b && (isLong h || isNegativeAlias h) ≡ false) (sym so) e; stands = st; size = refl }
+case {h = h} so e st = record {
+  short = subst (λ (b : Bool). b && (isLong h || isNegativeAlias h) ≡ false) (sym so) e;
+  stands = st;
+  size = refl;
+}
 
-pub judged-item : (s es : List ℕ) (names : ℕ) (o : Options) (a : State) {h : Header} (bs : List ℕ) (r : Out) → some h ≡ headerOf bs → Judged o s es names a (headed o a (some h) bs) r
+pub judged-item : (s es : List ℕ) (names : ℕ) (o : Options) (a : State) {h : Header} (bs : List ℕ) (r : Out)
+    → some h ≡ headerOf bs → Judged o s es names a (headed o a (some h) bs) r
     → Judged o s es names a (item o a bs) r
 judged-item s es names o a {h} bs r e j = subst (λ (v : Answer State). Judged o s es names a v r) (sym (whole o a bs h e)) j

@@ -31,7 +31,8 @@ unfolding ladder first unless
 ladder-is [] b = refl
 ladder-is (r ∷ rs) b = both (r .applies) (ladder-is rs b)
   where
-    both : (t : Bool) → unless (first rs) b ≡ ladder rs b → unless (pick t (some (r .gives)) (first rs)) b ≡ pick t (failed (r .gives)) (ladder rs b)
+    both : (t : Bool) → unless (first rs) b ≡ ladder rs b
+        → unless (pick t (some (r .gives)) (first rs)) b ≡ pick t (failed (r .gives)) (ladder rs b)
     both true e = ap (λ (q : Option Failure). unless q b) (pick-yes _ _ refl) ∙ sym (pick-yes _ _ refl)
     both false e = ap (λ (q : Option Failure). unless q b) (pick-no _ _ refl) ∙ e ∙ sym (pick-no _ _ refl)
 
@@ -47,17 +48,20 @@ later o s h f bs x b =
     (pick (isContent f && isName x && leb max-entries (length (s .entries))) (fail TooManyEntries (s .at))
     (rowed o s b))))))
 
-module _ (o : Options) (a : State) (h : Header) (bs : List ℕ) (f : Form) (ef : formOf h ≡ f) (short : o .strict && (isLong h || isNegativeAlias h) ≡ false) where
+module _ (o : Options) (a : State) (h : Header) (bs : List ℕ) (f : Form) (ef : formOf h ≡ f) (short : o .strict
+    && (isLong h || isNegativeAlias h) ≡ false) where
   pub to-later : (x : Found) → itemOf f (h .payload) (a .at + h .size) (drop (h .size) bs) (a .entries) ≡ some x
       → headed o a (some h) bs ≡ later o a h f (drop (h .size) bs) (x .item) (after a h f x)
   unfolding headed itemRules isMissing orNull ladder rule fail rowed
   to-later x e = rw (ef, e) (ladder-is _ _ ∙ pick-no _ _ short ∙ pick-no _ _ refl)
 
-  pub missing : itemOf f (h .payload) (a .at + h .size) (drop (h .size) bs) (a .entries) ≡ none → headed o a (some h) bs ≡ fail UndefinedReference (a .at)
+  pub missing : itemOf f (h .payload) (a .at + h .size) (drop (h .size) bs) (a .entries) ≡ none
+      → headed o a (some h) bs ≡ fail UndefinedReference (a .at)
   unfolding headed itemRules isMissing orNull ladder rule fail
   missing e = rw (ef, e) (ladder-is _ _ ∙ pick-no _ _ short ∙ pick-yes _ _ refl)
 
-pub waste : (o : Options) (a : State) (h : Header) (bs : List ℕ) {strict : Bool} → o .strict ≡ strict → strict && (isLong h || isNegativeAlias h) ≡ true → headed o a (some h) bs ≡ fail NotCanonical (a .at)
+pub waste : (o : Options) (a : State) (h : Header) (bs : List ℕ) {strict : Bool} → o .strict ≡ strict → strict
+    && (isLong h || isNegativeAlias h) ≡ true → headed o a (some h) bs ≡ fail NotCanonical (a .at)
 unfolding headed itemRules ladder rule fail
 waste o a h bs so e = ladder-is _ _ ∙ pick-yes _ _ (ap (λ (b : Bool). b && (isLong h || isNegativeAlias h)) so ∙ e)
 
@@ -99,7 +103,8 @@ module _ (x : Item) where
   is-name h = leb-yes h
 
 -- An item that makes no entry: nothing but the count of rows is left to judge.
-pub by-row : (o : Options) (a : State) (h : Header) (f : Form) (bs : List ℕ) (x : Item) (b : State) → keyAfterKey (a .place) x ≡ false → tooDeep (a .place) x ≡ false → isContent f ≡ false
+pub by-row : (o : Options) (a : State) (h : Header) (f : Form) (bs : List ℕ) (x : Item) (b : State)
+    → keyAfterKey (a .place) x ≡ false → tooDeep (a .place) x ≡ false → isContent f ≡ false
     → later o a h f bs x b ≡ rowed o a b
 unfolding pick
 by-row o a h f bs x b key deep flat = rw (key, deep, flat, and-false)

@@ -30,7 +30,8 @@ items-entries s es names = go (take names es)
     go [] = refl
     go (d ∷ ds) = ap (λ (l : List Item). nameIn s s d ∷ l) (go ds)
 
-module _ (s es : List ℕ) (names kind next e : ℕ) (lo : 10 ≤ kind) (hi : kind ≤ 11) (le : next ≤ e) (short : e ≤ 16384) (size : length es ≡ 256) where
+module _ (s es : List ℕ) (names kind next e : ℕ) (lo : 10 ≤ kind) (hi : kind ≤ 11) (le : next ≤ e) (short : e ≤ 16384)
+    (size : length es ≡ 256) where
   abbrev part : Found
   part = partOf s kind next (e - next)
 
@@ -42,11 +43,13 @@ module _ (s es : List ℕ) (names kind next e : ℕ) (lo : 10 ≤ kind) (hi : ki
   pub plain-full : (links : List ℕ) {r : Out} → 256 ≤ names → r ≡ out.Bad TooManyEntries → Entered false s es es links names kind next e r
   plain-full links l q = full refl l q
 
-  pub plain-entered : (links : List ℕ) {v : ℕ} {r : Out} → v ≡ plain → names < 256 → r ≡ freshOf kind e → Entered false s es (set es names v) links names kind next e r
+  pub plain-entered : (links : List ℕ) {v : ℕ} {r : Out} → v ≡ plain → names < 256 → r ≡ freshOf kind e
+      → Entered false s es (set es names v) links names kind next e r
   plain-entered links ev l q =
       let p : Packed plain next 0 (e - next) kind = packed-plain next (e - next) kind (omega arith) lo hi in
       rw ev
-      (entered refl l q (entries-more s es names size (omega arith) plain l ∙ ap (λ (x : Found). entriesOf s es names ++ (x ∷ [])) (found-packed s p))
+      (entered refl l q (entries-more s es names size (omega arith) plain l
+      ∙ ap (λ (x : Found). entriesOf s es names ++ (x ∷ [])) (found-packed s p))
       (record { few = omega arith; size = length-set es names plain ∙ size; chained = λ z. clash z refl }))
 
   -- ---- strictly
@@ -74,22 +77,28 @@ module _ (s es : List ℕ) (names kind next e : ℕ) (lo : 10 ≤ kind) (hi : ki
     is-part = item-path refl long refl
 
     known-is : {o : Option ℕ} → index (name kind bytes) (namesIn s s (take names es)) ≡ o → isKnown s es names part ≡ isSome o
-    known-is f = ap isSome (ap (λ (x : Item). index x (itemsOf (entriesOf s es names))) (sym is-part) ∙ ap (index (name kind bytes)) (items-entries s es names) ∙ f)
+    known-is f = ap isSome (ap (λ (x : Item). index x (itemsOf (entriesOf s es names))) (sym is-part)
+        ∙ ap (index (name kind bytes)) (items-entries s es names) ∙ f)
 
-    pub strict-known : {i : ℕ} {es′ links′ : List ℕ} {r : Out} → index (name kind bytes) (namesIn s s (take names es)) ≡ some i → r ≡ out.Bad NotCanonical
+    pub strict-known : {i : ℕ} {es′ links′ : List ℕ} {r : Out}
+        → index (name kind bytes) (namesIn s s (take names es)) ≡ some i → r ≡ out.Bad NotCanonical
         → Entered true s es es′ links′ names kind next e r
     unfolding isSome
     strict-known f q = known (known-is f) q
 
-    pub strict-full : {es′ links′ : List ℕ} {r : Out} → index (name kind bytes) (namesIn s s (take names es)) ≡ none → 256 ≤ names → r ≡ out.Bad TooManyEntries
+    pub strict-full : {es′ links′ : List ℕ} {r : Out} → index (name kind bytes) (namesIn s s (take names es)) ≡ none
+        → 256 ≤ names → r ≡ out.Bad TooManyEntries
         → Entered true s es es′ links′ names kind next e r
     unfolding isSome
     strict-full f l q = full (known-is f) l q
 
-    pub strict-entered : {es′ links′ : List ℕ} {r : Out} → noting.Entered s s es es′ links′ names (name kind bytes) next → r ≡ freshOf kind e → Entered true s es es′ links′ names kind next e r
+    pub strict-entered : {es′ links′ : List ℕ} {r : Out} → noting.Entered s s es es′ links′ names (name kind bytes) next
+        → r ≡ freshOf kind e → Entered true s es es′ links′ names kind next e r
     unfolding isSome foundIn
     strict-entered n q =
         let x : foundIn s (n .entry) ≡ part = λ j. record { item = (n .named ∙ is-part) j; start = n .begins j } in
         entered (known-is (n .new)) (n .room) q
-        (ap (λ (z : List ℕ). entriesOf s z (names + 1)) (n .stored) ∙ entries-more s es names size (omega (arith, n .room)) (n .entry) (n .room) ∙ ap (λ (y : Found). entriesOf s es names ++ (y ∷ [])) x)
+        (ap (λ (z : List ℕ). entriesOf s z (names + 1)) (n .stored)
+        ∙ entries-more s es names size (omega (arith, n .room)) (n .entry) (n .room)
+        ∙ ap (λ (y : Found). entriesOf s es names ++ (y ∷ [])) x)
         (record { few = omega (arith, n .room); size = n .chained .table .size; chained = λ _. n .chained })

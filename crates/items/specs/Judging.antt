@@ -108,7 +108,10 @@ isKnown s es names x = isSome (index (x .item) (itemsOf (entriesOf s es names)))
 
 -- What the table says of a name in full from one offset to another: strictly, it stands there already; there is no entry left; or it is in.
 pub data Entered (strict : Bool) (s es es′ links′ : List ℕ) (names kind next e : ℕ) (r : Out) : Type 0 where
-  known : strict && isKnown s es names (partOf s kind next (e - next)) ≡ true → r ≡ out.Bad NotCanonical → Entered strict s es es′ links′ names kind next e r
-  full : strict && isKnown s es names (partOf s kind next (e - next)) ≡ false → max-entries ≤ names → r ≡ out.Bad TooManyEntries → Entered strict s es es′ links′ names kind next e r
+  known : strict && isKnown s es names (partOf s kind next (e - next)) ≡ true → r ≡ out.Bad NotCanonical
+      → Entered strict s es es′ links′ names kind next e r
+  full : strict && isKnown s es names (partOf s kind next (e - next)) ≡ false → max-entries ≤ names
+      → r ≡ out.Bad TooManyEntries → Entered strict s es es′ links′ names kind next e r
   entered : strict && isKnown s es names (partOf s kind next (e - next)) ≡ false → names < max-entries → r ≡ freshOf kind e
-      → entriesOf s es′ (names + 1) ≡ entriesOf s es names ++ (partOf s kind next (e - next) ∷ []) → Fair strict s es′ links′ (names + 1) → Entered strict s es es′ links′ names kind next e r
+      → entriesOf s es′ (names + 1) ≡ entriesOf s es names ++ (partOf s kind next (e - next) ∷ [])
+      → Fair strict s es′ links′ (names + 1) → Entered strict s es es′ links′ names kind next e r

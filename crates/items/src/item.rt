@@ -73,8 +73,10 @@ fn wasteful(strict: bool, h: Header) -> bool
 // A container: judged by its depth.
 fn container(h: Header, next: usize, depth: usize) -> Out
     requires { ⌜ h .code ≡ Code.container ⌝ }
-    ensures moves { λ r. ⌜ ((strict : Bool) (s es links : List ℕ) (at names : ℕ) → Moved strict s es links at next names → Moves strict s es links at names depth r) ⌝ }
-    ensures judged { λ r. ⌜ ((s es : List ℕ) (o : Options) (a : State) (bs : List ℕ) (at names keyed : ℕ) → Case s es at names keyed next h o a
+    ensures moves { λ r. ⌜ ((strict : Bool) (s es links : List ℕ) (at names : ℕ) → Moved strict s es links at next names
+        → Moves strict s es links at names depth r) ⌝ }
+    ensures judged { λ r. ⌜ ((s es : List ℕ) (o : Options) (a : State) (bs : List ℕ) (at names keyed : ℕ)
+        → Case s es at names keyed next h o a
         → length (a .place .opened) + depth ≡ max-depth → Judged o s es names a (headed o a (some h) bs) r) ⌝ }
 {
     if depth == 0 {
@@ -97,8 +99,11 @@ fn reference(
     entries: &[u64; SymbolTable::MAX_ENTRIES],
 ) -> Out
     requires { ⌜ (h .code ≡ Code.reference) × (names ≤ max-entries) × (length (now entries) ≡ max-entries) ⌝ }
-    ensures moves { λ r. ⌜ ((strict : Bool) (s links : List ℕ) (at depth : ℕ) → Moved strict s (now (entries .entry)) links at next names → Moves strict s (now (entries .entry)) links at names depth r) ⌝ }
-    ensures judged { λ r. ⌜ ((s : List ℕ) (o : Options) (a : State) (bs : List ℕ) (at : ℕ) → Case s (now (entries .entry)) at names keyed next h o a
+    ensures moves { λ r. ⌜ ((strict : Bool) (s links : List ℕ) (at depth : ℕ)
+        → Moved strict s (now (entries .entry)) links at next names
+        → Moves strict s (now (entries .entry)) links at names depth r) ⌝ }
+    ensures judged { λ r. ⌜ ((s : List ℕ) (o : Options) (a : State) (bs : List ℕ) (at : ℕ)
+        → Case s (now (entries .entry)) at names keyed next h o a
         → Judged o s (now (entries .entry)) names a (headed o a (some h) bs) r) ⌝ }
 {
     let p = h.payload;
@@ -118,8 +123,10 @@ fn reference(
 // Bytes or a string.
 fn content(s: &[u8], h: Header, next: usize) -> Out
     requires { ⌜ Body h × (next ≤ length (now s)) × (length (now s) ≤ max-bytes) ⌝ }
-    ensures moves { λ r. ⌜ ((strict : Bool) (es links : List ℕ) (at names depth : ℕ) → Moved strict (now (s .entry)) es links at next names → Moves strict (now (s .entry)) es links at names depth r) ⌝ }
-    ensures judged { λ r. ⌜ ((es : List ℕ) (o : Options) (a : State) (at names keyed : ℕ) → Case (now (s .entry)) es at names keyed next h o a
+    ensures moves { λ r. ⌜ ((strict : Bool) (es links : List ℕ) (at names depth : ℕ)
+        → Moved strict (now (s .entry)) es links at next names → Moves strict (now (s .entry)) es links at names depth r) ⌝ }
+    ensures judged { λ r. ⌜ ((es : List ℕ) (o : Options) (a : State) (at names keyed : ℕ)
+        → Case (now (s .entry)) es at names keyed next h o a
         → Judged o (now (s .entry)) es names a (headed o a (some h) (drop at (now (s .entry)))) r) ⌝ }
 {
     let len = ByteLength::of(h);
@@ -154,7 +161,8 @@ fn new_name(
     entries: &mut [u64; SymbolTable::MAX_ENTRIES],
     links: &mut [u16; Links::SIZE],
 ) -> Out
-    requires { ⌜ (Kind.symbol ≤ kind) × (kind ≤ Kind.key) × (next ≤ e) × (e ≤ length (now s)) × (length (now s) ≤ max-bytes) × Chained (now s) (now s) (now entries) (now links) names ⌝ }
+    requires { ⌜ (Kind.symbol ≤ kind) × (kind ≤ Kind.key) × (next ≤ e) × (e ≤ length (now s))
+        × (length (now s) ≤ max-bytes) × Chained (now s) (now s) (now entries) (now links) names ⌝ }
     ensures { λ r. ⌜ Entered true (now (s .entry)) (now (entries .entry)) (now (entries .exit)) (now (links .exit)) names kind next e r ⌝ }
 {
     let part = &s[next..e];
@@ -197,8 +205,10 @@ fn name(
     links: &mut [u16; Links::SIZE],
 ) -> Out
     requires { ⌜ Name h × (next ≤ length (now s)) × (length (now s) ≤ max-bytes) × Fair strict (now s) (now entries) (now links) names ⌝ }
-    ensures moves { λ r. ⌜ ((at depth : ℕ) → at < next → Moves strict (now (s .entry)) (now (entries .exit)) (now (links .exit)) at names depth r) ⌝ }
-    ensures judged { λ r. ⌜ ((o : Options) (a : State) (at : ℕ) → o .strict ≡ strict → Case (now (s .entry)) (now (entries .entry)) at names keyed next h o a
+    ensures moves { λ r. ⌜ ((at depth : ℕ) → at < next
+        → Moves strict (now (s .entry)) (now (entries .exit)) (now (links .exit)) at names depth r) ⌝ }
+    ensures judged { λ r. ⌜ ((o : Options) (a : State) (at : ℕ) → o .strict ≡ strict
+        → Case (now (s .entry)) (now (entries .entry)) at names keyed next h o a
         → Judged o (now (s .entry)) (now (entries .exit)) names a (headed o a (some h) (drop at (now (s .entry)))) r) ⌝ }
 {
     let kind = kind_of(h.code);
@@ -232,9 +242,11 @@ fn judge(
     entries: &mut [u64; SymbolTable::MAX_ENTRIES],
     links: &mut [u16; Links::SIZE],
 ) -> Out
-    requires { ⌜ (some h ≡ headerOf (drop at (now s))) × (at ≤ length (now s)) × (length (now s) ≤ max-bytes) × Fair strict (now s) (now entries) (now links) names ⌝ }
+    requires { ⌜ (some h ≡ headerOf (drop at (now s))) × (at ≤ length (now s)) × (length (now s) ≤ max-bytes)
+        × Fair strict (now s) (now entries) (now links) names ⌝ }
     ensures moves { λ r. ⌜ Moves strict (now (s .entry)) (now (entries .exit)) (now (links .exit)) at names depth r ⌝ }
-    ensures judged { λ r. ⌜ ((o : Options) (a : State) → o .strict ≡ strict → Stands (now (s .entry)) (now (entries .entry)) at names keyed a → length (a .place .opened) + depth ≡ max-depth
+    ensures judged { λ r. ⌜ ((o : Options) (a : State) → o .strict ≡ strict
+        → Stands (now (s .entry)) (now (entries .entry)) at names keyed a → length (a .place .opened) + depth ≡ max-depth
         → Judged o (now (s .entry)) (now (entries .exit)) names a (headed o a (some h) (drop at (now (s .entry)))) r) ⌝ }
 {
     if wasteful(strict, h) {
@@ -278,7 +290,8 @@ pub fn one(
 ) -> Out
     requires { ⌜ (at ≤ length (now s)) × (length (now s) ≤ max-bytes) × Fair strict (now s) (now entries) (now links) names ⌝ }
     ensures moves { λ r. ⌜ Moves strict (now (s .entry)) (now (entries .exit)) (now (links .exit)) at names depth r ⌝ }
-    ensures judged { λ r. ⌜ ((o : Options) (a : State) → o .strict ≡ strict → Stands (now (s .entry)) (now (entries .entry)) at names keyed a → length (a .place .opened) + depth ≡ max-depth
+    ensures judged { λ r. ⌜ ((o : Options) (a : State) → o .strict ≡ strict
+        → Stands (now (s .entry)) (now (entries .entry)) at names keyed a → length (a .place .opened) + depth ≡ max-depth
         → Judged o (now (s .entry)) (now (entries .exit)) names a (item o a (drop at (now (s .entry)))) r) ⌝ }
 {
     match wire::header::header_at(s, at) {

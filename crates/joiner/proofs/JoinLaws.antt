@@ -69,7 +69,8 @@ module _ (a b old : List ℕ) {f g : Failure} where
 
 -- ---- canonicalizing
 
-pub unread-alone : (bs old : List ℕ) {f : Failure} → failed f ≡ counts lenient bs → Writes (canonicalizing bs (length old)) old (Failed f) old
+pub unread-alone : (bs old : List ℕ) {f : Failure} → failed f ≡ counts lenient bs
+    → Writes (canonicalizing bs (length old)) old (Failed f) old
 unfolding canonicalizing items then counted stored
 unread-alone bs old q = let r = unread bs q in record { answer = rw r; buffer = rw r }
 

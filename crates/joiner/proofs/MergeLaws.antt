@@ -55,7 +55,8 @@ module _ {a b : List ℕ} {rows : ℕ} (p : Both a b rows) where
   both-rows : length (xs ++ ys) ≡ rows
   both-rows = length-append xs ys ∙ omega (arith, length-items (p .u .found), length-items (p .v .found), p .count)
 
-  refused : (old : List ℕ) {r : Written} (k : Error) → answerOf r ≡ fail k 0 → together (length old) (xs ++ ys) ≡ fail k 0 → Joins lenient a b old r old
+  refused : (old : List ℕ) {r : Written} (k : Error) → answerOf r ≡ fail k 0
+      → together (length old) (xs ++ ys) ≡ fail k 0 → Joins lenient a b old r old
   unfolding counted stored then fail
   refused old k q t = let e = joined (length old) ∙ t in record { answer = q ∙ rw e; buffer = rw e }
 
@@ -65,10 +66,16 @@ module _ {a b : List ℕ} {rows : ℕ} (p : Both a b rows) where
   -- ---- measured
 
   module _ (l : rows ≤ max-rows) where
-    pub begun-first : (plan : List ℕ) → length plan ≡ max-rows → Begun a b a 0 [] (p .u) (replicate max-entries 0) (replicate links-size 0) plan begun
+    pub begun-first : (plan : List ℕ) → length plan ≡ max-rows
+        → Begun a b a 0 [] (p .u) (replicate max-entries 0) (replicate links-size 0) plan begun
     begun-first plan n =
         record {
-          bundled = record { sides = omega arith; which = side-first 0 a b refl; short = reading-reads a (p .first) .0; room = omega (arith, p .count) };
+          bundled = record {
+            sides = omega arith;
+            which = side-first 0 a b refl;
+            short = reading-reads a (p .first) .0;
+            room = omega (arith, p .count);
+          };
           reads = p .first;
           before = record { row = refl; small = zero-le; measured = measured-none a b plan n (omega arith) };
         }
@@ -82,7 +89,12 @@ module _ {a b : List ℕ} {rows : ℕ} (p : Both a b rows) where
       pub begun-second : Measures a b [] (p .u) es links plan t → Begun a b b 1 xs (p .v) es links plan t
       begun-second m =
           record {
-            bundled = record { sides = omega arith; which = side-second 1 a b (λ e. omega arith); short = reading-reads b (p .second) .0; room = omega (arith, length-items (p .u .found), p .count) };
+            bundled = record {
+              sides = omega arith;
+              which = side-second 1 a b (λ e. omega arith);
+              short = reading-reads b (p .second) .0;
+              room = omega (arith, length-items (p .u .found), p .count);
+            };
             reads = p .second;
             before = first-tallied m;
           }
@@ -112,7 +124,8 @@ module _ {a b : List ℕ} {rows : ℕ} (p : Both a b rows) where
         names : length (namesFrom [] (xs ++ ys)) ≤ max-entries
         names = omega (arith, ap length (tallied .measured .names), length-names (tallied .measured .table .table))
 
-        pub size-over : {r : Written} → answerOf r ≡ fail OutputTooLong 0 → ltb (min max-bytes (length old)) (t .size) ≡ true → Joins lenient a b old r old
+        pub size-over : {r : Written} → answerOf r ≡ fail OutputTooLong 0
+            → ltb (min max-bytes (length old)) (t .size) ≡ true → Joins lenient a b old r old
         size-over q o =
             refused old OutputTooLong q
             (together-size (length old) (xs ++ ys) few names (rw (← tallied .measured .length-is) (leb-true _ _ o)))
@@ -122,7 +135,12 @@ module _ {a b : List ℕ} {rows : ℕ} (p : Both a b rows) where
           fits = rw (← tallied .measured .length-is) (ltb-false _ _ o)
 
           pub planned : Planned p plan (length old)
-          planned = record { size = tallied .measured .plan-size; planned = tallied .measured .planned; few = names; fits = omega (arith, fits) }
+          planned = record {
+            size = tallied .measured .plan-size;
+            planned = tallied .measured .planned;
+            few = names;
+            fits = omega (arith, fits);
+          }
 
           pub written : {new : List ℕ} {w : Spot} → Put p old new w → Joins lenient a b old (Done (t .size)) new
           unfolding counted stored then
@@ -134,7 +152,14 @@ module _ {a b : List ℕ} {rows : ℕ} (p : Both a b rows) where
 
   module _ {plan : List ℕ} {capacity : ℕ} (g : Planned p plan capacity) where
     pub planning-first : Planning a [] ys (p .u) plan capacity
-    planning-first = record { short = reading-reads a (p .first) .0; reads = p .first; size = g .size; planned = g .planned; few = g .few; fits = g .fits }
+    planning-first = record {
+      short = reading-reads a (p .first) .0;
+      reads = p .first;
+      size = g .size;
+      planned = g .planned;
+      few = g .few;
+      fits = g .fits;
+    }
 
     pub planning-second : Planning b xs [] (p .v) plan capacity
     planning-second =

@@ -43,7 +43,8 @@ fn start() -> Spot
 // Measures both bundles, and plans how their names are written.
 fn measure_both<'a>(first: &'a [u8], second: &'a [u8], plan: &mut [u16; Row::MAX_COUNT]) -> Tally
     requires { ⌜ Fitting (now first) (now second) × (length (now plan) ≡ max-rows) ⌝ }
-    ensures { λ r. ⌜ ((rows : ℕ) (p : Both (now (first .entry)) (now (second .entry)) rows) → rows ≤ max-rows → Measured p (now (plan .exit)) r) ⌝ }
+    ensures { λ r. ⌜ ((rows : ℕ) (p : Both (now (first .entry)) (now (second .entry)) rows) → rows ≤ max-rows
+        → Measured p (now (plan .exit)) r) ⌝ }
 {
     let mut entries = SymbolTable::new();
     let mut links = [0u16; Links::SIZE];
@@ -55,7 +56,8 @@ fn measure_both<'a>(first: &'a [u8], second: &'a [u8], plan: &mut [u16; Row::MAX
 // Writes both bundles as planned.
 fn put_both(out: &mut [u8], first: &[u8], second: &[u8], plan: &[u16; Row::MAX_COUNT]) -> Spot
     requires { ⌜ Ready (now first) (now second) (now plan) (length (now out)) ⌝ }
-    ensures { λ r. ⌜ ((rows : ℕ) (p : Both (now (first .entry)) (now (second .entry)) rows) → Planned p (now (plan .entry)) (length (now (out .entry)))
+    ensures { λ r. ⌜ ((rows : ℕ) (p : Both (now (first .entry)) (now (second .entry)) rows)
+        → Planned p (now (plan .entry)) (length (now (out .entry)))
         → Put p (now (out .entry)) (now (out .exit)) r) ⌝ }
 {
     let w = put(out, first, plan, start());

@@ -20,7 +20,8 @@ module _ (i : ℕ) (r : Row) (out : List ℕ) (capacity : length (rowLine i r) �
   unfolding rowLine
   index-put {l} {n} p = first (ended i space) columns out capacity l n p
 
-module _ (k : ℕ) (word : List ℕ) (n : ℕ) (other : List ℕ) (m : ℕ) (out : List ℕ) (capacity : length (bundleLine k word n other m) ≤ length out) where
+module _ (k : ℕ) (word : List ℕ) (n : ℕ) (other : List ℕ) (m : ℕ) (out : List ℕ)
+    (capacity : length (bundleLine k word n other m) ≤ length out) where
   abbrev counts : List (List ℕ)
   counts = labelled word n ∷ labelled other m ∷ (newline ∷ []) ∷ []
 

@@ -29,7 +29,8 @@ use Rattle.listed.specs.Promises.{Prints, Tabled, printedOf}
 
 -- ---- lengths
 
-length-line : (k : ℕ) (word : List ℕ) (n : ℕ) (other : List ℕ) (m : ℕ) → length (bundleLine k word n other m) ≤ 68 + length word + length other
+length-line : (k : ℕ) (word : List ℕ) (n : ℕ) (other : List ℕ) (m : ℕ)
+    → length (bundleLine k word n other m) ≤ 68 + length word + length other
 unfolding ascii bundleLine
 length-line k word n other m =
     omega (arith, length-four (labelled bundle-word k) (labelled word n) (labelled other m) (newline ∷ []), length-labelled bundle-word k, length-labelled word n, length-labelled other m)
@@ -98,14 +99,17 @@ module _ (bs : List ℕ) where
     held old (failed f) = refl
     held old (good rs) = refl
 
-    row-line : (i : ℕ) → i < length printed → rowLines i (drop i printed) ≡ rowLine i (getD (t .rows) i blank) ∷ rowLines (i + 1) (drop (i + 1) printed)
+    row-line : (i : ℕ) → i < length printed
+        → rowLines i (drop i printed) ≡ rowLine i (getD (t .rows) i blank) ∷ rowLines (i + 1) (drop (i + 1) printed)
     unfolding rowLines
     row-line i l =
-        let e : getD (t .rows) i blank ≡ getD printed i blank = ap (λ (rs : List Row). getD rs i blank) (p .filled ∙ held (replicate max-rows blank) (rows lenient bs)) ∙ List·getD-append printed _ blank i l in
+        let e : getD (t .rows) i blank ≡ getD printed i blank = ap (λ (rs : List Row). getD rs i blank) (p .filled
+        ∙ held (replicate max-rows blank) (rows lenient bs)) ∙ List·getD-append printed _ blank i l in
         rw (e, add-one, drop-cons printed i blank l)
 
     -- the line that is next
-    pub turn : {w l₀ l : List ℕ} {at i : ℕ} → Stage w l₀ l at (rowLines i (drop i printed)) → i < length printed → Stage w l₀ l at (rowLine i (getD (t .rows) i blank) ∷ rowLines (i + 1) (drop (i + 1) printed))
+    pub turn : {w l₀ l : List ℕ} {at i : ℕ} → Stage w l₀ l at (rowLines i (drop i printed)) → i < length printed
+        → Stage w l₀ l at (rowLine i (getD (t .rows) i blank) ∷ rowLines (i + 1) (drop (i + 1) printed))
     turn {w} {l₀} {l} {at} {i} q g = subst (Stage w l₀ l at) (row-line i g) q
 
     module _ (k : ℕ) (out : List ℕ) (capacity : max-text ≤ length out) where
@@ -119,8 +123,10 @@ module _ (bs : List ℕ) where
       pub line-fits : length (firstLine k (answerOf (t .answer))) ≤ length out
       line-fits = first-fits (firstLine k (answerOf (t .answer))) (rowLines 0 printed) out fits
 
-      pub line-put : (l : List ℕ) (n : ℕ) → Puts (firstLine k (answerOf (t .answer))) n out l → Stage (text k bs) out l n (rowLines 0 printed)
-      line-put l n q = subst⁻¹ (λ (w : List ℕ). Stage w out l n (rowLines 0 printed)) by-lines (first (firstLine k (answerOf (t .answer))) (rowLines 0 printed) out fits l n q)
+      pub line-put : (l : List ℕ) (n : ℕ) → Puts (firstLine k (answerOf (t .answer))) n out l
+          → Stage (text k bs) out l n (rowLines 0 printed)
+      line-put l n q = subst⁻¹ (λ (w : List ℕ). Stage w out l n (rowLines 0 printed)) by-lines
+          (first (firstLine k (answerOf (t .answer))) (rowLines 0 printed) out fits l n q)
 
 -- ---- a buffer
 

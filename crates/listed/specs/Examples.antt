@@ -28,5 +28,9 @@ Printed =
     × (length (ascii "bundle  rows  names \n") ≡ first-frame)
 
 pub printed : Printed
-unfolding pick rule first fail unless then bigEndian digits following payloadOf headerOf isLong isNegativeAlias widthFrom width shift header within leads goodAfter utf8 isText isName isKey isContainer same sameName indexFrom index isSome top one-less moved due itemsOf start formOf isContent itemOf isMissing orNull itemRules after headed item ending run reading countsOf counts rowOf rows ascii decimalIn decimal flatten labelled ended bundleLine firstLine rowLine rowLines rowsOf text envelopeText
+unfolding pick rule first fail unless then bigEndian digits following payloadOf headerOf isLong isNegativeAlias
+    widthFrom width shift header within leads goodAfter utf8 isText isName isKey isContainer same sameName indexFrom
+    index isSome top one-less moved due itemsOf start formOf isContent itemOf isMissing orNull itemRules after headed
+    item ending run reading countsOf counts rowOf rows ascii decimalIn decimal flatten labelled ended bundleLine
+    firstLine rowLine rowLines rowsOf text envelopeText
 printed = (refl, refl, refl, refl, refl)

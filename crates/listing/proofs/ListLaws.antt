@@ -32,7 +32,8 @@ module _ (old : List ℕ) (long : max-text ≤ length old) where
 
 module _ (k : ℕ) (bs old : List ℕ) (long : max-text ≤ length old) {new : List ℕ} where
   -- the envelope is refused
-  pub lists-error : {f : Failure} {x w : ℕ} → failed f ≡ counted (opening bs) → x ≡ codeOf (f .error) → Puts (within (length old) (envelopeText k x)) w old new
+  pub lists-error : {f : Failure} {x w : ℕ} → failed f ≡ counted (opening bs) → x ≡ codeOf (f .error)
+      → Puts (within (length old) (envelopeText k x)) w old new
       → Makes filter k bs old (record { used = 0; written = w; outcome = Failed f }) new
   unfolding printed readingOf stepOf sizeIn outcomeOf then
   lists-error e q t =

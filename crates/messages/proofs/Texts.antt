@@ -62,14 +62,17 @@ either false x y p q = q
 words-short : (n : ℕ) → length (words n) ≤ 55
 unfolding ascii beside words
 words-short n =
-    either (eqb n 1) _ _ (omega arith) (either (eqb n 2) _ _ (omega arith) (either (eqb n 3) _ _ (omega arith) (either (eqb n 4) _ _ (omega arith)
-    (either (eqb n 5) _ _ (omega arith) (either (eqb n 6) _ _ (omega arith) (either (eqb n 7) _ _ (omega arith) (either (eqb n 8) _ _ (omega arith)
+    either (eqb n 1) _ _ (omega arith)
+    (either (eqb n 2) _ _ (omega arith) (either (eqb n 3) _ _ (omega arith) (either (eqb n 4) _ _ (omega arith)
+    (either (eqb n 5) _ _ (omega arith)
+    (either (eqb n 6) _ _ (omega arith) (either (eqb n 7) _ _ (omega arith) (either (eqb n 8) _ _ (omega arith)
     (either (eqb n 10) _ _ (omega arith) (either (eqb n 12) _ _ (omega arith) (either (eqb n 13) _ _ (omega arith) (omega arith)))))))))))
 
 -- none of the numbers that have a meaning
 abbrev pub Other : ℕ → Type 0
 Other n =
-    (((((((((((Unit {0} × (n ≢ 1)) × (n ≢ 2)) × (n ≢ 3)) × (n ≢ 4)) × (n ≢ 5)) × (n ≢ 6)) × (n ≢ 7)) × (n ≢ 8)) × (n ≢ 10)) × (n ≢ 12)) × (n ≢ 13))
+    (((((((((((Unit {0} × (n ≢ 1)) × (n ≢ 2)) × (n ≢ 3)) × (n ≢ 4)) × (n ≢ 5)) × (n ≢ 6)) × (n ≢ 7)) × (n ≢ 8))
+    × (n ≢ 10)) × (n ≢ 12)) × (n ≢ 13))
 
 pub words-other : (n : ℕ) → Other n → words n ≡ words 0
 unfolding pick beside words

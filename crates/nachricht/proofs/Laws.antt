@@ -38,7 +38,8 @@ checked-good (Good c) e = ap Good (good-inj e)
 checked-good (Failed f) e = failed-good e
 
 -- Of a bundle that reads, the counts are answered, and its rows are the front of the table.
-read-good : {mode : Mode} {bytes : List ℕ} {table table′ : List Row} {r : Checked} {u : State} → Read mode bytes table r table′ → reading (options mode (length table)) bytes ≡ good u
+read-good : {mode : Mode} {bytes : List ℕ} {table table′ : List Row} {r : Checked} {u : State}
+    → Read mode bytes table r table′ → reading (options mode (length table)) bytes ≡ good u
     → (r ≡ Good (countsOf u)) × Stored table table′ (map rowOf (u .found)) (length (u .found))
 unfolding counts rows then
 read-good {r = r} {u} p e = (checked-good r (p .answer ∙ rw e), stored-good (p .filled) (rw e) (length-map (u .found) rowOf))
@@ -53,7 +54,8 @@ written-reads-back rs text old new n b w p mode table table′ r l q =
     let v = writing-written rs text (length old) b w (wrote-done p) in
     let f = v .fits in
     let same = length-map rs (itemAt text) in
-    let k = read-back o (itemsAt text rs) (v .well-formed) (record { rows = f .rows; table = rw same l; names = f .names }) (omega (arith, f .size)) in
+    let k = read-back o (itemsAt text rs) (v .well-formed)
+    (record { rows = f .rows; table = rw same l; names = f .names }) (omega (arith, f .size)) in
     let e = ap (reading o) (v .bytes) ∙ k .reads in
     let (g, s) = read-good q e in
     let size = sym (length-items (k .u .found)) ∙ ap length (k .found) ∙ same in
@@ -70,7 +72,8 @@ unfolding counts countsOf items then
 rewrites-canonically mode bytes table table′ b y p old new w q =
     let o = options mode (length table) in
     let (u, e, k) = then-good (reading o bytes) _ (sym (p .answer)) in
-    let front : take (b .rows) table′ ≡ map rowOf (u .found) = ap (λ (c : Bundle). take (c .rows) table′) (sym (good-inj k)) ∙ read-good p e .1 .front in
+    let front : take (b .rows) table′ ≡ map rowOf (u .found) = ap (λ (c : Bundle). take (c .rows) table′)
+    (sym (good-inj k)) ∙ read-good p e .1 .front in
     let c = ap (λ (rs : List Row). writing rs bytes (length old)) front ∙ rewriting-law o bytes (length old) y e .canonically in
     record {
       xs = itemsOf (u .found);

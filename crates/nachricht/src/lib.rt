@@ -102,7 +102,8 @@ pub extern "C" fn nachricht_check(bytes: &[u8], strict: bool) -> Answer
 #[no_mangle]
 pub extern "C" fn nachricht_read(bytes: &[u8], strict: bool, rows: &mut [Row]) -> Answer
     ensures answer { λ r. ⌜ r ≡ countsAnswer (counts (options (modeOf strict) (length (now (rows .entry)))) (now (bytes .entry))) ⌝ }
-    ensures filled { λ _. ⌜ now (rows .exit) ≡ stored (now (rows .entry)) (table.rows (options (modeOf strict) (length (now (rows .entry)))) (now (bytes .entry))) ⌝ }
+    ensures filled { λ _. ⌜ now (rows .exit) ≡ stored (now (rows .entry))
+        (table.rows (options (modeOf strict) (length (now (rows .entry)))) (now (bytes .entry))) ⌝ }
 {
     answer_of(reader::read_in(bytes, mode_of(strict), rows))
 }
@@ -111,7 +112,8 @@ pub extern "C" fn nachricht_read(bytes: &[u8], strict: bool, rows: &mut [Row]) -
 #[no_mangle]
 pub extern "C" fn nachricht_write(rows: &[Row], text: &[u8], out: &mut [u8]) -> Answer
     ensures answer { λ r. ⌜ r ≡ countAnswer (counted (writing (now (rows .entry)) (now (text .entry)) (length (now (out .entry))))) ⌝ }
-    ensures buffer { λ _. ⌜ now (out .exit) ≡ stored (now (out .entry)) (writing (now (rows .entry)) (now (text .entry)) (length (now (out .entry)))) ⌝ }
+    ensures buffer { λ _. ⌜ now (out .exit) ≡ stored (now (out .entry))
+        (writing (now (rows .entry)) (now (text .entry)) (length (now (out .entry)))) ⌝ }
 {
     written_of(writer::write(rows, text, out))
 }
@@ -120,7 +122,8 @@ pub extern "C" fn nachricht_write(rows: &[Row], text: &[u8], out: &mut [u8]) -> 
 #[no_mangle]
 pub extern "C" fn nachricht_canonicalize(bytes: &[u8], out: &mut [u8]) -> Answer
     ensures answer { λ r. ⌜ r ≡ countAnswer (counted (canonicalizing (now (bytes .entry)) (length (now (out .entry))))) ⌝ }
-    ensures buffer { λ _. ⌜ now (out .exit) ≡ stored (now (out .entry)) (canonicalizing (now (bytes .entry)) (length (now (out .entry)))) ⌝ }
+    ensures buffer { λ _. ⌜ now (out .exit) ≡ stored (now (out .entry))
+        (canonicalizing (now (bytes .entry)) (length (now (out .entry)))) ⌝ }
 {
     written_of(joiner::canonicalize(bytes, out))
 }
@@ -128,8 +131,10 @@ pub extern "C" fn nachricht_canonicalize(bytes: &[u8], out: &mut [u8]) -> Answer
 // Joins two bundles.
 #[no_mangle]
 pub extern "C" fn nachricht_join<'a>(first: &'a [u8], second: &'a [u8], out: &mut [u8]) -> Answer
-    ensures answer { λ r. ⌜ r ≡ countAnswer (counted (joining lenient (now (first .entry)) (now (second .entry)) (length (now (out .entry))))) ⌝ }
-    ensures buffer { λ _. ⌜ now (out .exit) ≡ stored (now (out .entry)) (joining lenient (now (first .entry)) (now (second .entry)) (length (now (out .entry)))) ⌝ }
+    ensures answer { λ r. ⌜ r ≡ countAnswer
+        (counted (joining lenient (now (first .entry)) (now (second .entry)) (length (now (out .entry))))) ⌝ }
+    ensures buffer { λ _. ⌜ now (out .exit) ≡ stored (now (out .entry))
+        (joining lenient (now (first .entry)) (now (second .entry)) (length (now (out .entry)))) ⌝ }
 {
     written_of(joiner::join(first, second, out))
 }

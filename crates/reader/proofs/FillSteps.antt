@@ -26,7 +26,8 @@ use Rattle.reader.specs.Filling.{Fillable, Fills}
 -- What reading answers: an error and no row, or a state with n of them.
 data Counted (o : Options) (bs : List ℕ) (n : ℕ) : Type 0 where
   none : n ≡ 0 → ((old : List Row) → old ≡ stored old (rows o bs)) → Counted o bs n
-  all : (u : State) → reading o bs ≡ good u → length (u .found) ≡ n → ((old : List Row) → map rowOf (u .found) ++ drop n old ≡ stored old (rows o bs)) → Counted o bs n
+  all : (u : State) → reading o bs ≡ good u → length (u .found) ≡ n
+      → ((old : List Row) → map rowOf (u .found) ++ drop n old ≡ stored old (rows o bs)) → Counted o bs n
 
 counted-as : (o : Options) (bs : List ℕ) {n : ℕ} → n ≡ rowsIn (counts o bs) → Counted o bs n
 unfolding counts rows then rowsIn countsOf stored
@@ -75,10 +76,12 @@ module _ {bs : List ℕ} {n i : ℕ} {table : List ℕ} {w : Walked} {old zs : L
           let d = g .front (f .o) u e m in
           record { o = f .o; u = u; s = d .s; walks = d .walks; left = walk-law (f .o) bs e .left (d .walks) .1 (omega (arith, d .count)) }
 
-  pub fill-on : {table′ : List ℕ} {r : Walked} → i < length zs → Nexts bs table w table′ r → Filling bs n (i + 1) table′ r old (set zs i (r .row))
+  pub fill-on : {table′ : List ℕ} {r : Walked} → i < length zs → Nexts bs table w table′ r
+      → Filling bs n (i + 1) table′ r old (set zs i (r .row))
   fill-on {table′} {r} l next = record { front = front; rest = rest }
     where
-      front : (o : Options) (u : State) → reading o bs ≡ good u → length (u .found) ≡ n → Filled o bs u (i + 1) table′ r (take (i + 1) (set zs i (r .row)))
+      front : (o : Options) (u : State) → reading o bs ≡ good u → length (u .found) ≡ n
+          → Filled o bs u (i + 1) table′ r (take (i + 1) (set zs i (r .row)))
       front o u e m =
           let d = g .front o u e m in
           let q = next o u (d .s) (d .walks) in
@@ -87,7 +90,8 @@ module _ {bs : List ℕ} {n i : ℕ} {table : List ℕ} {w : Walked} {old zs : L
             walks = q .walks;
             count = ap length (q .found) ∙ length-append (d .s .found) (q .x ∷ []) ∙ ap (λ (k : ℕ). k + 1) (d .count);
             are =
-                ap (λ (k : ℕ). take k (set zs i (r .row))) (add-one i) ∙ take-suc-set zs i (r .row) l ∙ ap₂ (λ (xs : List Row) (x : Row). xs ++ (x ∷ [])) (d .are) (q .row)
+                ap (λ (k : ℕ). take k (set zs i (r .row))) (add-one i) ∙ take-suc-set zs i (r .row) l
+                ∙ ap₂ (λ (xs : List Row) (x : Row). xs ++ (x ∷ [])) (d .are) (q .row)
                 ∙ sym (ap (map rowOf) (q .found) ∙ map-append rowOf (d .s .found) (q .x ∷ []));
           }
 
@@ -108,5 +112,8 @@ module _ {bs : List ℕ} {n i : ℕ} {table : List ℕ} {w : Walked} {old zs : L
       go (all u e m f) =
           let d = g .front o u e m in
           let v = walk-law o bs e in
-          let p : d .s ≡ u = order (length bs) (w .at) (λ l. v .last (d .walks) l .0) (λ l. let k = v .left (d .walks) .0 l in absurd (omega (arith, d .count))) in
-          sym (take-append-drop i zs) ∙ ap₂ (λ (xs ys : List Row). xs ++ ys) (d .are ∙ ap (λ (v : State). map rowOf (v .found)) p) (g .rest ∙ ap (λ (k : ℕ). drop k old) here) ∙ f old
+          let p : d .s ≡ u = order (length bs) (w .at) (λ l. v .last (d .walks) l .0)
+          (λ l. let k = v .left (d .walks) .0 l in absurd (omega (arith, d .count))) in
+          sym (take-append-drop i zs)
+          ∙ ap₂ (λ (xs ys : List Row). xs ++ ys) (d .are ∙ ap (λ (v : State). map rowOf (v .found)) p) (g .rest
+          ∙ ap (λ (k : ℕ). drop k old) here) ∙ f old

@@ -39,7 +39,8 @@ Takes o s es names rows a r (out.Value u) = Taken o s es u names 0 (rows - 1) (e
 Takes o s es names rows a r (out.Key u) = Taken o s es u names 1 (rows - 1) (spot (a .place .opened) true (a .place .fields)) r
 Takes o s es names rows a r (out.NewSymbol u) = Taken o s es u (names + 1) 0 (rows - 1) (ended (a .place .opened) (a .place .fields)) r
 Takes o s es names rows a r (out.NewKey u) = Taken o s es u (names + 1) 1 (rows - 1) (spot (a .place .opened) true (a .place .fields)) r
-Takes o s es names rows a r (out.Container n u) = Taken o s es u names 0 (rows - 1) (spot (n .0 ∷ a .place .opened) false (a .place .fields)) r
+Takes o s es names rows a r (out.Container n u) = Taken o s es u names 0 (rows - 1)
+    (spot (n .0 ∷ a .place .opened) false (a .place .fields)) r
 
 module _ (o : Options) (a : State) (rows : ℕ) (e : length (a .found) + rows ≡ min max-rows (o .capacity)) where
   full : rows ≡ 0 → (b : State) → rowed o a b ≡ fail TooManyRows (a .at)
@@ -52,7 +53,13 @@ module _ (o : Options) (a : State) (rows : ℕ) (e : length (a .found) + rows �
 
   module _ (s es : List ℕ) (r : Answer State) where
     taken : {at names keyed : ℕ} {p : Place} → rows ≢ 0 → Goes o s es at names keyed p a r → Taken o s es at names keyed (rows - 1) p r
-    taken n g = record { next = g .next; is = g .is ∙ vacant n (g .next); stands = g .stands; place = g .place; row = omega (arith, n, g .row) }
+    taken n g = record {
+      next = g .next;
+      is = g .is ∙ vacant n (g .next);
+      stands = g .stands;
+      place = g .place;
+      row = omega (arith, n, g .row);
+    }
 
     refused : {at names keyed : ℕ} {p : Place} → rows ≡ 0 → Goes o s es at names keyed p a r → r ≡ fail TooManyRows (a .at)
     refused z g = g .is ∙ full z (g .next)

@@ -43,7 +43,8 @@ pub fn fields(
 ) -> Step
     requires { ⌜ (from ≤ length (now s)) × (length (now s) ≤ max-bytes) × Fair strict (now s) (now entries) (now links) known ⌝ }
     ensures went { λ r. ⌜ Went strict (now (s .entry)) (now (entries .exit)) (now (links .exit)) from (count .0) r ⌝ }
-    ensures resumes { λ r. ⌜ ((Q : ℕ → Bool → Place) (o : Options) (a : State) → o .strict ≡ strict → Lane Q depth (count .0) → Stands (now (s .entry)) (now (entries .entry)) from known 0 a
+    ensures resumes { λ r. ⌜ ((Q : ℕ → Bool → Place) (o : Options) (a : State) → o .strict ≡ strict
+        → Lane Q depth (count .0) → Stands (now (s .entry)) (now (entries .entry)) from known 0 a
         → length (a .found) + free ≡ min max-rows (o .capacity) → a .place ≡ Q (count .0) false
         → Resumes o (now (s .entry)) (now (entries .exit)) Q a r) ⌝ }
 {

@@ -38,7 +38,8 @@ fixed-code c z e = let (l, u) = and-true (eqb c 0) (ltb z 5) e in (eqb-true c 0 
 
 module _ (h : Header) where
   -- no number, no fixed type and no reference: content follows
-  pub form-held : leb 1 (h .code) && leb (h .code) 3 ≡ false → eqb (h .code) 0 && ltb (h .sz) 5 ≡ false → h .code < 7 → formOf h ≡ content (h .code + 5)
+  pub form-held : leb 1 (h .code) && leb (h .code) 3 ≡ false → eqb (h .code) 0 && ltb (h .sz) 5 ≡ false → h .code < 7
+      → formOf h ≡ content (h .code + 5)
   form-held n f l =
       order 4 (h .code) (λ g. form-text h g (omega arith))
       (λ g. equal (h .code) 0
@@ -54,7 +55,8 @@ one-byte bs h e o =
     let z : following (h .code) (h .sz) ≡ 0 = omega (arith, header-size bs h (sym e)) in
     let l = following-none (h .code) (h .sz) z in
     let p = header-inside bs h (sym e) z in
-    let short : h .payload + shift (h .code) < 24 = cases (eqb (h .code) 0) (λ c. rw c (let q = rw c at p in omega arith)) (λ c. rw c (let q = rw c at p in omega arith)) in
+    let short : h .payload + shift (h .code) < 24 = cases (eqb (h .code) 0)
+    (λ c. rw c (let q = rw c at p in omega arith)) (λ c. rw c (let q = rw c at p in omega arith)) in
     sym (ap length (header-short (h .code) (h .payload) short))
 
 -- The negative alias and the least integer have headers of one length.
@@ -83,7 +85,12 @@ module _ {s : List ℕ} {a u : State} {h : Header} (w : Turn lenient s a u h) wh
     bare-plain : k < 10 → Plain 0
     unfolding isContent isName
     bare-plain l =
-        record { no-name = ap isName bare ∙ leb-no {a = 10} {b = k} l; ends = flat-ends w e refl ∙ sym (add-zero _); kept = flat-kept w e refl }
+        record {
+          no-name = ap isName bare ∙ leb-no {a = 10} {b = k} l;
+          ends = flat-ends w e refl
+              ∙ sym (add-zero _);
+          kept = flat-kept w e refl;
+        }
 
   module _ (lo : 1 ≤ h .code) (hi : h .code ≤ 3) where
     pub number-plain : Plain 0
@@ -92,7 +99,9 @@ module _ {s : List ℕ} {a u : State} {h : Header} (w : Turn lenient s a u h) wh
     pub number-full : full (w .y .item) ≡ header (h .code) (numberOf (h .code) (h .payload))
     number-full =
         let c : h .code + 5 - 5 ≡ h .code = omega arith in
-        rw (bare _ _ (form-number h lo hi)) (full-other (record { kind = h .code + 5; number = numberOf (h .code) (h .payload); content = [] }) (omega arith) ∙ append-nil _ ∙ ap (λ (k : ℕ). header k (numberOf (h .code) (h .payload))) c)
+        rw (bare _ _ (form-number h lo hi))
+        (full-other (record { kind = h .code + 5; number = numberOf (h .code) (h .payload); content = [] })
+        (omega arith) ∙ append-nil _ ∙ ap (λ (k : ℕ). header k (numberOf (h .code) (h .payload))) c)
 
   module _ (zero : h .code ≡ 0) (lo : h .sz < 5) where
     pub fixed-plain : Plain 0
@@ -104,7 +113,8 @@ module _ {s : List ℕ} {a u : State} {h : Header} (w : Turn lenient s a u h) wh
     pub fixed-length : h .size ≡ length (full (w .y .item))
     fixed-length =
         header-size _ h (w .headed) ∙ ap (λ (c : ℕ). 1 + following c (h .sz)) zero
-        ∙ length-fixed (record { kind = h .sz; number = h .payload; content = [] }) (following 0 (h .sz)) lo refl ∙ ap length (sym fixed-full)
+        ∙ length-fixed (record { kind = h .sz; number = h .payload; content = [] }) (following 0 (h .sz)) lo refl
+        ∙ ap length (sym fixed-full)
 
   -- ---- with content
 
@@ -120,7 +130,8 @@ module _ {s : List ℕ} {a u : State} {h : Header} (w : Turn lenient s a u h) wh
 
     pub content-plain : h .code < 5 → Plain (h .payload)
     unfolding isName
-    content-plain l = let n = ap isName part ∙ leb-no {a = 10} {b = h .code + 5} (omega arith) in record { no-name = n; ends = content-ends w e; kept = content-kept w e n }
+    content-plain l = let n = ap isName part ∙ leb-no {a = 10} {b = h .code + 5} (omega arith) in
+        record { no-name = n; ends = content-ends w e; kept = content-kept w e n }
 
     pub content-length : length (header (h .code) (h .payload)) + h .payload ≡ length (full (w .y .item))
     unfolding sized
@@ -138,4 +149,5 @@ module _ {s : List ℕ} {a u : State} {h : Header} (w : Turn lenient s a u h) wh
 
       pub name-text : utf8 (w .y .item .content) ≡ true
       unfolding isContent isText
-      name-text = not-false (and-right (and-yes (ap isContent e) (ap isText part ∙ leb-yes {a = 9} {b = h .code + 5} (omega arith))) (w .passed .text))
+      name-text = not-false (and-right
+          (and-yes (ap isContent e) (ap isText part ∙ leb-yes {a = 9} {b = h .code + 5} (omega arith))) (w .passed .text))

@@ -30,11 +30,16 @@ module _ {olds : List Item} {to : List ℕ} {names : List Item} (m : Mapped olds
       go k x e (fresh n p q) = rw q (index-front x names (y ∷ []) e)
 
   -- an entry more
-  pub mapped-entry : (v : ℕ) → length olds < length to → isName y ≡ true → index y (noted y names) ≡ some v → Mapped (olds ++ (y ∷ [])) (set to (length olds) v) (noted y names)
+  pub mapped-entry : (v : ℕ) → length olds < length to → isName y ≡ true → index y (noted y names) ≡ some v
+      → Mapped (olds ++ (y ∷ [])) (set to (length olds) v) (noted y names)
   mapped-entry v room n i = record { at = λ k x e. ⊎-elim (before k x) (last k x) (at-snoc olds y k e) }
     where
-      before : (k : ℕ) (x : Item) → getElem? olds k ≡ some x → (isName x ≡ true) × (index x (noted y names) ≡ some (getD (set to (length olds) v) k 0))
-      before k x p = let l : k < length olds = at-lt olds k p in rw (getD-set-other to (length olds) k v 0 (λ q. omega arith)) (mapped-noted .at k x p)
+      before : (k : ℕ) (x : Item) → getElem? olds k ≡ some x → (isName x ≡ true)
+          × (index x (noted y names) ≡ some (getD (set to (length olds) v) k 0))
+      before k x p = let l : k < length olds = at-lt olds k p in
+          rw (getD-set-other to (length olds) k v 0 (λ q. omega arith)) (mapped-noted .at k x p)
 
-      last : (k : ℕ) (x : Item) → (k ≡ length olds) × (y ≡ x) → (isName x ≡ true) × (index x (noted y names) ≡ some (getD (set to (length olds) v) k 0))
-      last k x p = rw (p .0, getD-set-same to (length olds) v 0 room) (subst (λ (z : Item). (isName z ≡ true) × (index z (noted y names) ≡ some v)) (p .1) (n, i))
+      last : (k : ℕ) (x : Item) → (k ≡ length olds) × (y ≡ x) → (isName x ≡ true)
+          × (index x (noted y names) ≡ some (getD (set to (length olds) v) k 0))
+      last k x p = rw (p .0, getD-set-same to (length olds) v 0 room)
+          (subst (λ (z : Item). (isName z ≡ true) × (index z (noted y names) ≡ some v)) (p .1) (n, i))

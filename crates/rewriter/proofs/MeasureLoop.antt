@@ -15,17 +15,23 @@ use Rattle.rewriter.specs.Measuring as measuring
 use Rattle.rewriter.proofs.MapLaws.{mapped-start}
 
 -- Only the counts matter.
-pub begun-as : {a b s : List ℕ} {side : ℕ} {zs : List Item} {u : State} {es links plan : List ℕ} {t r : Tally} → Begun a b s side zs u es links plan t
+pub begun-as : {a b s : List ℕ} {side : ℕ} {zs : List Item} {u : State} {es links plan : List ℕ} {t r : Tally}
+    → Begun a b s side zs u es links plan t
     → r .row ≡ t .row → r .names ≡ t .names → r .size ≡ t .size → Begun a b s side zs u es links plan r
 begun-as g er en es =
     record {
       bundled = g .bundled;
       reads = g .reads;
-      before = record { row = g .before .row ∙ sym er; small = rw (er, es) (g .before .small); measured = rw (en, es) (g .before .measured) };
+      before = record {
+        row = g .before .row ∙ sym er;
+        small = rw (er, es) (g .before .small);
+        measured = rw (en, es) (g .before .measured);
+      };
     }
 
 -- before the first item
-pub stage-start : {a b s : List ℕ} {side : ℕ} {zs : List Item} {u : State} {es links plan : List ℕ} {t : Tally} (to : List ℕ) → Begun a b s side zs u es links plan t
+pub stage-start : {a b s : List ℕ} {side : ℕ} {zs : List Item} {u : State} {es links plan : List ℕ} {t : Tally}
+    (to : List ℕ) → Begun a b s side zs u es links plan t
     → t .at ≡ 0 → t .entries ≡ 0 → length to ≡ 256 → Stage a b s zs u es links to plan t
 unfolding start itemsOf
 stage-start {s = s} {zs = zs} to g ea ee width =
@@ -42,14 +48,16 @@ stage-start {s = s} {zs = zs} to g ea ee width =
       measured = rw (append-nil zs) (g .before .measured);
     })
 
-module _ {a b s : List ℕ} {side : ℕ} {zs : List Item} {u : State} (w : Bundled a b s side zs u) {es links to plan : List ℕ} {t : Tally} where
+module _ {a b s : List ℕ} {side : ℕ} {zs : List Item} {u : State} (w : Bundled a b s side zs u)
+    {es links to plan : List ℕ} {t : Tally} where
   -- an item is left
   pub stage-here : Stage a b s zs u es links to plan t → t .at < length s → Here a b s side es links to plan t
   stage-here (on p) l = record { zs = zs; u = u; bundled = w; partway = p }
   stage-here (over k n m) l = absurd (omega arith)
 
   pub stage-next : {es′ links′ to′ plan′ : List ℕ} {r : Tally} → Stage a b s zs u es links to plan t → t .at < length s
-      → ((zs : List Item) (u : State) → Bundled a b s side zs u → Partway a b s zs u es links to plan t → Onward a b s zs u es′ links′ to′ plan′ t r)
+      → ((zs : List Item) (u : State) → Bundled a b s side zs u → Partway a b s zs u es links to plan t
+      → Onward a b s zs u es′ links′ to′ plan′ t r)
       → Stage a b s zs u es′ links′ to′ plan′ r × (length s - r .at < length s - t .at)
   stage-next (on p) l f = let o = f zs u w p in (o .stage, omega (arith, o .ahead))
   stage-next (over k n m) l f = absurd (omega arith)
@@ -58,5 +66,6 @@ module _ {a b s : List ℕ} {side : ℕ} {zs : List Item} {u : State} (w : Bundl
   pub stage-end : Stage a b s zs u es links to plan t → length s ≤ t .at → Measures a b zs u es links plan t
   stage-end (on p) l =
       let e = all-read lenient s (p .state) (p .reads) (omega (arith, p .offset)) in
-      measuring.all (subst (λ (v : State). Tallied a b es links plan (zs ++ itemsOf (v .found)) t) e (record { row = p .row; small = p .small; measured = p .measured }))
+      measuring.all (subst (λ (v : State). Tallied a b es links plan (zs ++ itemsOf (v .found)) t) e
+      (record { row = p .row; small = p .small; measured = p .measured }))
   stage-end (over k n m) l = measuring.over n m

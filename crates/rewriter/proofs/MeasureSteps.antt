@@ -30,7 +30,8 @@ use Rattle.rewriter.specs.Measuring.{tallied, Mapped, Bundled, Partway, 
 use Rattle.rewriter.proofs.MapLaws.{mapped-noted, mapped-entry}
 use Rattle.rewriter.proofs.Arms.{Plain, name-is, name-part, name-text, content-length}
 
-module _ {a b s : List ℕ} {side : ℕ} {zs : List Item} {u : State} (w : Bundled a b s side zs u) {es links to plan : List ℕ} {t : Tally} (p : Partway a b s zs u es links to plan t)
+module _ {a b s : List ℕ} {side : ℕ} {zs : List Item} {u : State} (w : Bundled a b s side zs u)
+    {es links to plan : List ℕ} {t : Tally} (p : Partway a b s zs u es links to plan t)
     {h : Header} (e : some h ≡ headerOf (drop (t .at) s)) where
   pub turned : Turn lenient s (p .state) u h
   turned = turn s (p .reads) (rw (p .offset) e)
@@ -75,7 +76,8 @@ module _ {a b s : List ℕ} {side : ℕ} {zs : List Item} {u : State} (w : Bundl
 
   module _ {es′ links′ to′ plan′ : List ℕ} {r : Tally} (at entries names n : ℕ) (is : r ≡ tallied t at entries names n) (little : n ≤ 16393)
       (ends : next .at ≡ at) (olds : length (next .entries) ≡ entries) (few : entries ≤ 256) (width : length to′ ≡ 256)
-      (mapped : Mapped (itemsOf (next .entries)) to′ (noted x (namesFrom [] ys))) (measured : Measured 1024 a b es′ links′ plan′ (ys ++ (x ∷ [])) names (t .size + n)) where
+      (mapped : Mapped (itemsOf (next .entries)) to′ (noted x (namesFrom [] ys)))
+      (measured : Measured 1024 a b es′ links′ plan′ (ys ++ (x ∷ [])) names (t .size + n)) where
     onward : Onward a b s zs u es′ links′ to′ plan′ t r
     unfolding tallied after
     onward =
@@ -99,9 +101,11 @@ module _ {a b s : List ℕ} {side : ℕ} {zs : List Item} {u : State} (w : Bundl
 
   -- ---- what is no name
 
-  pub plain-on : {r : Tally} (at k n : ℕ) → at ≡ t .at + h .size + k → Plain turned k → n ≡ length (full x) → n ≤ 16393 → r ≡ tallied t at (t .entries) (t .names) n → Onward a b s zs u es links to plan t r
+  pub plain-on : {r : Tally} (at k n : ℕ) → at ≡ t .at + h .size + k → Plain turned k → n ≡ length (full x) → n ≤ 16393
+      → r ≡ tallied t at (t .entries) (t .names) n → Onward a b s zs u es links to plan t r
   plain-on at k n ea q en l is =
-      onward _ _ _ n is l (q .ends ∙ ap (λ (m : ℕ). m + h .size + k) (p .offset) ∙ sym ea) (ap length (q .kept) ∙ p .entries) (p .few) (p .width) (rw (q .kept) (mapped-noted (p .mapped) x))
+      onward _ _ _ n is l (q .ends ∙ ap (λ (m : ℕ). m + h .size + k) (p .offset) ∙ sym ea) (ap length (q .kept)
+      ∙ p .entries) (p .few) (p .width) (rw (q .kept) (mapped-noted (p .mapped) x))
       (measure-plain (p .measured) x lt n (q .no-name) en)
 
   -- ---- a name that has an index
@@ -113,7 +117,8 @@ module _ {a b s : List ℕ} {side : ℕ} {zs : List Item} {u : State} (w : Bundl
   names-count : length (namesFrom [] ys) ≡ t .names
   names-count = ap length (sym among) ∙ length-names (p .measured .table .table)
 
-  known-measured : (i : ℕ) → isName x ≡ true → index x (namesFrom [] ys) ≡ some i → Measured 1024 a b es links (set plan (t .row) i) (ys ++ (x ∷ [])) (t .names) (t .size + length (header 7 i))
+  known-measured : (i : ℕ) → isName x ≡ true → index x (namesFrom [] ys) ≡ some i
+      → Measured 1024 a b es links (set plan (t .row) i) (ys ++ (x ∷ [])) (t .names) (t .size + length (header 7 i))
   known-measured i n k =
       subst (λ (j : ℕ). Measured 1024 a b es links (set plan j i) (ys ++ (x ∷ [])) (t .names) (t .size + length (header 7 i))) (p .row)
       (measure-known (p .measured) x lt i (length (header 7 i)) n k refl)
@@ -127,12 +132,20 @@ module _ {a b s : List ℕ} {side : ℕ} {zs : List Item} {u : State} (w : Bundl
     pub reference-small : h .payload < 256
     reference-small = omega (arith, at-lt (st .entries) (h .payload) (reference-is turned (form-reference h hi)), p .entries, p .few)
 
-    pub reference-on : {r : Tally} → r ≡ tallied t (t .at + h .size) (t .entries) (t .names) (length (header 7 (getD to (h .payload) 0))) → Onward a b s zs u es links to (set plan (t .row) (getD to (h .payload) 0)) t r
+    pub reference-on : {r : Tally}
+        → r ≡ tallied t (t .at + h .size) (t .entries) (t .names) (length (header 7 (getD to (h .payload) 0)))
+        → Onward a b s zs u es links to (set plan (t .row) (getD to (h .payload) 0)) t r
     unfolding isContent
     reference-on is =
         let (n, k) = p .mapped .at (h .payload) x entry in
         let l = at-lt (namesFrom [] ys) (getD to (h .payload) 0) (index-at x (namesFrom [] ys) k .at) in
-        onward _ _ _ _ is (omega (arith, header-most 7 (getD to (h .payload) 0) (omega (arith, l, names-count, p .measured .table .table .few)))) (flat-ends turned (form-reference h hi) refl ∙ ap (λ (m : ℕ). m + h .size) (p .offset)) (ap length (flat-kept turned (form-reference h hi) refl) ∙ p .entries) (p .few) (p .width)
+        onward _ _ _ _ is (omega (
+          arith,
+          header-most 7 (getD to (h .payload) 0)
+              (omega (arith, l, names-count, p .measured .table .table .few)),
+        ))
+        (flat-ends turned (form-reference h hi) refl ∙ ap (λ (m : ℕ). m + h .size) (p .offset))
+        (ap length (flat-kept turned (form-reference h hi) refl) ∙ p .entries) (p .few) (p .width)
         (rw (flat-kept turned (form-reference h hi) refl) (mapped-noted (p .mapped) x))
         (known-measured (getD to (h .payload) 0) n k)
 
@@ -175,12 +188,15 @@ module _ {a b s : List ℕ} {side : ℕ} {zs : List Item} {u : State} (w : Bundl
     pub name-old : t .entries < 256
     name-old = omega (arith, name-room turned f (name-is turned f lo), p .entries)
 
-    module _ {es′ links′ plan′ : List ℕ} {r : Tally} (v names n : ℕ) (is : r ≡ tallied t (t .at + h .size + h .payload) (t .entries + 1) names n) (little : n ≤ 16393)
-        (known : index x (noted x (namesFrom [] ys)) ≡ some v) (measured : Measured 1024 a b es′ links′ plan′ (ys ++ (x ∷ [])) names (t .size + n)) where
+    module _ {es′ links′ plan′ : List ℕ} {r : Tally} (v names n : ℕ)
+        (is : r ≡ tallied t (t .at + h .size + h .payload) (t .entries + 1) names n) (little : n ≤ 16393)
+        (known : index x (noted x (namesFrom [] ys)) ≡ some v)
+        (measured : Measured 1024 a b es′ links′ plan′ (ys ++ (x ∷ [])) names (t .size + n)) where
       entry-on : Onward a b s zs u es′ links′ (set to (t .entries) v) plan′ t r
       entry-on =
           onward _ _ _ n is little (content-ends turned f ∙ ap (λ (m : ℕ). m + h .size + h .payload) (p .offset))
-          (ap length (name-entry turned f (name-is turned f lo)) ∙ length-append (st .entries) (turned .y ∷ []) ∙ ap (λ (k : ℕ). k + 1) (p .entries)) (omega (arith, name-old)) (length-set to (t .entries) v ∙ p .width)
+          (ap length (name-entry turned f (name-is turned f lo)) ∙ length-append (st .entries) (turned .y ∷ [])
+          ∙ ap (λ (k : ℕ). k + 1) (p .entries)) (omega (arith, name-old)) (length-set to (t .entries) v ∙ p .width)
           mapped measured
         where
           olds : length (itemsOf (st .entries)) ≡ t .entries
@@ -188,7 +204,8 @@ module _ {a b s : List ℕ} {side : ℕ} {zs : List Item} {u : State} (w : Bundl
 
           mapped : Mapped (itemsOf (next .entries)) (set to (t .entries) v) (noted x (namesFrom [] ys))
           mapped =
-              subst (λ (l : List Item). Mapped l (set to (t .entries) v) (noted x (namesFrom [] ys))) (sym (ap itemsOf (name-entry turned f (name-is turned f lo)) ∙ items-snoc (st .entries) (turned .y)))
+              subst (λ (l : List Item). Mapped l (set to (t .entries) v) (noted x (namesFrom [] ys)))
+              (sym (ap itemsOf (name-entry turned f (name-is turned f lo)) ∙ items-snoc (st .entries) (turned .y)))
               (subst (λ (k : ℕ). Mapped (itemsOf (st .entries) ++ (x ∷ [])) (set to k v) (noted x (namesFrom [] ys))) olds
               (mapped-entry (p .mapped) x v (omega (arith, olds, name-old, p .width)) (name-is turned f lo) known))
 
@@ -197,29 +214,39 @@ module _ {a b s : List ℕ} {side : ℕ} {zs : List Item} {u : State} (w : Bundl
     looked-up q = ap (λ (z : Item). index z (namesFrom [] ys)) named ∙ ap (index (name (h .code + 5) bytes)) (sym among) ∙ q
 
     pub known-on : {r : Tally} (i : ℕ) → index (name (h .code + 5) bytes) (namesIn a b (take (t .names) es)) ≡ some i → i < 256
-        → r ≡ tallied t (t .at + h .size + h .payload) (t .entries + 1) (t .names) (length (header 7 i)) → Onward a b s zs u es links (set to (t .entries) i) (set plan (t .row) i) t r
+        → r ≡ tallied t (t .at + h .size + h .payload) (t .entries + 1) (t .names) (length (header 7 i))
+        → Onward a b s zs u es links (set to (t .entries) i) (set plan (t .row) i) t r
     known-on i q l is =
         let k = looked-up q in
-        entry-on i (t .names) _ is (omega (arith, header-most 7 i (omega arith))) (rw (noted-known x (namesFrom [] ys) k) k) (known-measured i (name-is turned f lo) k)
+        entry-on i (t .names) _ is (omega (arith, header-most 7 i (omega arith)))
+        (rw (noted-known x (namesFrom [] ys) k) k) (known-measured i (name-is turned f lo) k)
 
     pub fresh-on : {es′ links′ : List ℕ} {r : Tally} → Entered a b es es′ links′ (t .names) (name (h .code + 5) bytes) (t .at + h .size)
-        → r ≡ tallied t (t .at + h .size + h .payload) (t .entries + 1) (t .names + 1) (length (header (h .code) (h .payload)) + h .payload) → Onward a b s zs u es′ links′ (set to (t .entries) (t .names)) (set plan (t .row) 256) t r
+        → r ≡ tallied t (t .at + h .size + h .payload) (t .entries + 1) (t .names + 1)
+        (length (header (h .code) (h .payload)) + h .payload)
+        → Onward a b s zs u es′ links′ (set to (t .entries) (t .names)) (set plan (t .row) 256) t r
     fresh-on {es′} {links′} g is =
         let k = looked-up (g .new) in
         let most = header-most (h .code) (h .payload) (omega (arith, content-within f, w .short)) in
         entry-on (t .names) (t .names + 1) _ is (omega (arith, most, content-within f, w .short))
         (rw (noted-fresh x (namesFrom [] ys) (name-is turned f lo) k) (index-last x (namesFrom [] ys) k ∙ ap some names-count))
-        (measure-fresh (p .measured) x lt es′ links′ (set plan (t .row) 256) (g .entry) _ (name-is turned f lo) k (name-text turned f lo) (content-length turned f) (g .chained) (g .stored) (g .named ∙ sym named)
+        (measure-fresh (p .measured) x lt es′ links′ (set plan (t .row) 256) (g .entry) _ (name-is turned f lo) k
+        (name-text turned f lo) (content-length turned f) (g .chained) (g .stored) (g .named ∙ sym named)
         (length-set plan (t .row) 256 ∙ p .measured .plan-size)
         (λ j l. getD-set-other plan (t .row) j 256 0 (λ q. omega (arith, p .row)))
-        (subst (λ (j : ℕ). getD (set plan (t .row) 256) j 0 ≡ 256) (sym (p .row)) (getD-set-same plan (t .row) 256 0 (omega (arith, room, p .measured .plan-size)))))
+        (subst (λ (j : ℕ). getD (set plan (t .row) 256) j 0 ≡ 256) (sym (p .row))
+        (getD-set-same plan (t .row) 256 0 (omega (arith, room, p .measured .plan-size)))))
 
-    pub full-over : {es′ links′ to′ plan′ : List ℕ} {r : Tally} → index (name (h .code + 5) bytes) (namesIn a b (take (t .names) es)) ≡ none → 256 ≤ t .names → r .at ≡ length s → r .names ≡ 257
+    pub full-over : {es′ links′ to′ plan′ : List ℕ} {r : Tally}
+        → index (name (h .code + 5) bytes) (namesIn a b (take (t .names) es)) ≡ none → 256 ≤ t .names → r .at ≡ length s
+        → r .names ≡ 257
         → Onward a b s zs u es′ links′ to′ plan′ t r
     full-over q l ends is =
         let k = looked-up q in
-        let n : namesFrom [] (ys ++ (x ∷ [])) ≡ namesFrom [] ys ++ (x ∷ []) = names-more ys x ∙ noted-fresh x (namesFrom [] ys) (name-is turned f lo) k in
-        let m : length (namesFrom [] (ys ++ (x ∷ []))) ≡ t .names + 1 = ap length n ∙ length-append (namesFrom [] ys) (x ∷ []) ∙ ap (λ (j : ℕ). j + 1) names-count in
+        let n : namesFrom [] (ys ++ (x ∷ [])) ≡ namesFrom [] ys ++ (x ∷ []) = names-more ys x
+        ∙ noted-fresh x (namesFrom [] ys) (name-is turned f lo) k in
+        let m : length (namesFrom [] (ys ++ (x ∷ []))) ≡ t .names + 1 = ap length n
+        ∙ length-append (namesFrom [] ys) (x ∷ []) ∙ ap (λ (j : ℕ). j + 1) names-count in
         let g = names-longer (namesFrom [] (ys ++ (x ∷ []))) (turned .later) in
         let all : namesFrom [] (zs ++ itemsOf (u .found)) ≡ namesFrom (namesFrom [] (ys ++ (x ∷ []))) (turned .later) =
         ap (namesFrom []) (whole ∙ sym (append-assoc ys (x ∷ []) (turned .later))) ∙ names-append [] (ys ++ (x ∷ [])) (turned .later) in
@@ -235,9 +262,11 @@ pub record NameHere (a b s : List ℕ) (side : ℕ) (t : Tally) (h : Header) : T
   pub short : length s ≤ 16384
   pub old : t .entries < 256
   pub count : t .at + h .size + h .payload - (t .at + h .size) ≡ h .payload
-  pub part : Part a b (h .code + 5) side (t .at + h .size) (take (t .at + h .size + h .payload - (t .at + h .size)) (drop (t .at + h .size) s))
+  pub part : Part a b (h .code + 5) side (t .at + h .size)
+      (take (t .at + h .size + h .payload - (t .at + h .size)) (drop (t .at + h .size) s))
 
-pub name-here : {a b s : List ℕ} {side : ℕ} {es links to plan : List ℕ} {t : Tally} {h : Header} → Here a b s side es links to plan t × (some h ≡ headerOf (drop (t .at) s)) × (5 ≤ h .code) × (h .code ≤ 6)
+pub name-here : {a b s : List ℕ} {side : ℕ} {es links to plan : List ℕ} {t : Tally} {h : Header}
+    → Here a b s side es links to plan t × (some h ≡ headerOf (drop (t .at) s)) × (5 ≤ h .code) × (h .code ≤ 6)
     → NameHere a b s side t h
 name-here {t} {h} (k, e, lo, hi) =
     let f = form-text h (omega arith) hi in

@@ -21,12 +21,15 @@ pub put-as : {zs : List Item} {old new : List ℕ} {w r : Spot} → Put zs old n
 put-as p er eo = record { row = p .row ∙ sym er; puts = rw eo (p .puts) }
 
 -- What is written fits, and the buffer stays as long as it was.
-put-kept : {zs : List Item} {old new : List ℕ} {w : Spot} → Put zs old new w → (ws : List Item) → length (canonical (zs ++ ws)) ≤ length old → length new ≡ length old
+put-kept : {zs : List Item} {old new : List ℕ} {w : Spot} → Put zs old new w → (ws : List Item)
+    → length (canonical (zs ++ ws)) ≤ length old → length new ≡ length old
 put-kept {zs} {old} p ws l =
     let m = le-trans (canonical-within zs ws) l in
-    ap length (p .puts .1) ∙ length-append (canonical zs) (drop (length (canonical zs)) old) ∙ omega (arith, m, length-drop (length (canonical zs)) old)
+    ap length (p .puts .1) ∙ length-append (canonical zs) (drop (length (canonical zs)) old)
+    ∙ omega (arith, m, length-drop (length (canonical zs)) old)
 
-module _ {s : List ℕ} {zs ws : List Item} {u : State} {plan old : List ℕ} (g : Planning s zs ws u plan (length old)) {new : List ℕ} {w : Spot} where
+module _ {s : List ℕ} {zs ws : List Item} {u : State} {plan old : List ℕ} (g : Planning s zs ws u plan (length old))
+    {new : List ℕ} {w : Spot} where
   -- before the first item
   pub put-start : Put zs old new w → w .at ≡ 0 → Putting s zs u old new w
   unfolding start itemsOf
@@ -52,6 +55,8 @@ module _ {s : List ℕ} {zs ws : List Item} {u : State} {plan old : List ℕ} (g
   kept q p =
       let r = run-reads (drop (p .state .at) s) (p .reads) in
       let e : (zs ++ itemsOf (u .found)) ++ ws ≡ (zs ++ itemsOf (p .state .found)) ++ (readItems r ++ ws) =
-      ap (λ (l : List Item). (zs ++ l) ++ ws) (reads-found r) ∙ ap (λ (l : List Item). l ++ ws) (sym (append-assoc zs (itemsOf (p .state .found)) (readItems r)))
+      ap (λ (l : List Item). (zs ++ l) ++ ws) (reads-found r)
+      ∙ ap (λ (l : List Item). l ++ ws) (sym (append-assoc zs (itemsOf (p .state .found)) (readItems r)))
       ∙ append-assoc (zs ++ itemsOf (p .state .found)) (readItems r) ws in
-      put-kept (p .put) (readItems r ++ ws) (rw e at (g .fits)) ∙ sym (put-kept q (itemsOf (u .found) ++ ws) (rw (append-assoc zs (itemsOf (u .found)) ws) at (g .fits)))
+      put-kept (p .put) (readItems r ++ ws) (rw e at (g .fits))
+      ∙ sym (put-kept q (itemsOf (u .found) ++ ws) (rw (append-assoc zs (itemsOf (u .found)) ws) at (g .fits)))

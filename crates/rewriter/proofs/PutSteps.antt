@@ -37,7 +37,8 @@ use Rattle.rewriter.proofs.MapLaws.{mapped-noted, mapped-entry}
 use Rattle.rewriter.proofs.Arms.{fixed-code, form-held, number-plain, number-full, fixed-plain, fixed-full, content-plain, content-full, name-is}
 use Rattle.rewriter.proofs.Rewritten.{rewritten-number, rewritten-reference, rewritten-fixed, rewritten-name, rewritten-sized}
 
-module _ {s : List ℕ} {zs ws : List Item} {u : State} {plan old : List ℕ} (g : Planning s zs ws u plan (length old)) {new : List ℕ} {w : Spot} (p : Putting s zs u old new w)
+module _ {s : List ℕ} {zs ws : List Item} {u : State} {plan old : List ℕ} (g : Planning s zs ws u plan (length old))
+    {new : List ℕ} {w : Spot} (p : Putting s zs u old new w)
     {h : Header} (e : some h ≡ headerOf (drop (w .at) s)) where
   turned : Turn lenient s (p .state) u h
   turned = turn s (p .reads) (rw (p .offset) e)
@@ -100,24 +101,29 @@ module _ {s : List ℕ} {zs ws : List Item} {u : State} {plan old : List ℕ} (g
   as-planned : rewritten s (getD plan (length ys) 0) (st .at + h .size) h ≡ encodedAt plan (length ys) x
   as-planned = cases (leb 1 (h .code) && leb (h .code) 3) number other
     where
-      number : leb 1 (h .code) && leb (h .code) 3 ≡ true → rewritten s (getD plan (length ys) 0) (st .at + h .size) h ≡ encodedAt plan (length ys) x
+      number : leb 1 (h .code) && leb (h .code) 3 ≡ true
+          → rewritten s (getD plan (length ys) 0) (st .at + h .size) h ≡ encodedAt plan (length ys) x
       number n =
           let (l, m) = code-within 1 3 (h .code) n in
           rewritten-number s _ _ h n ∙ sym (number-full turned l m) ∙ sym (planned-plain (number-plain turned l m .no-name))
 
-      fixed : leb 1 (h .code) && leb (h .code) 3 ≡ false → h .code < 7 → eqb (h .code) 0 && ltb (h .sz) 5 ≡ true → rewritten s (getD plan (length ys) 0) (st .at + h .size) h ≡ encodedAt plan (length ys) x
+      fixed : leb 1 (h .code) && leb (h .code) 3 ≡ false → h .code < 7 → eqb (h .code) 0 && ltb (h .sz) 5 ≡ true
+          → rewritten s (getD plan (length ys) 0) (st .at + h .size) h ≡ encodedAt plan (length ys) x
       fixed n l f =
           let (c, z) = fixed-code (h .code) (h .sz) f in
           rewritten-fixed s _ _ h n l f ∙ sym (fixed-full turned c z) ∙ sym (planned-plain (fixed-plain turned c z .no-name))
 
-      held : leb 1 (h .code) && leb (h .code) 3 ≡ false → h .code < 7 → eqb (h .code) 0 && ltb (h .sz) 5 ≡ false → rewritten s (getD plan (length ys) 0) (st .at + h .size) h ≡ encodedAt plan (length ys) x
+      held : leb 1 (h .code) && leb (h .code) 3 ≡ false → h .code < 7 → eqb (h .code) 0 && ltb (h .sz) 5 ≡ false
+          → rewritten s (getD plan (length ys) 0) (st .at + h .size) h ≡ encodedAt plan (length ys) x
       held n l f =
           let c = form-held h n f l in
           order 5 (h .code)
-          (λ m. rewritten-name s _ _ h n l f m ∙ ap (referring (getD plan (length ys) 0)) (sym (content-full turned c)) ∙ sym (planned-name (name-is turned c m)))
+          (λ m. rewritten-name s _ _ h n l f m ∙ ap (referring (getD plan (length ys) 0)) (sym (content-full turned c))
+          ∙ sym (planned-name (name-is turned c m)))
           (λ m. rewritten-sized s _ _ h n l f m ∙ sym (content-full turned c) ∙ sym (planned-plain (content-plain turned c m .no-name)))
 
-      other : leb 1 (h .code) && leb (h .code) 3 ≡ false → rewritten s (getD plan (length ys) 0) (st .at + h .size) h ≡ encodedAt plan (length ys) x
+      other : leb 1 (h .code) && leb (h .code) 3 ≡ false
+          → rewritten s (getD plan (length ys) 0) (st .at + h .size) h ≡ encodedAt plan (length ys) x
       other n =
           order 7 (h .code)
           (λ m. rewritten-reference s _ _ h n m ∙ sym (planned-name (entry m .0) ∙ by-reference _ _ (refer-small m)))
@@ -129,12 +135,15 @@ module _ {s : List ℕ} {zs ws : List Item} {u : State} {plan old : List ℕ} (g
   bytes = rewritten s (getD plan (w .row) 0) (w .at + h .size) h
 
   bytes-are : bytes ≡ encodedAt plan (length ys) x
-  bytes-are = subst (λ (i : ℕ). rewritten s (getD plan i 0) (w .at + h .size) h ≡ encodedAt plan (length ys) x) (p .put .row) (subst (λ (i : ℕ). rewritten s (getD plan (length ys) 0) (i + h .size) h ≡ encodedAt plan (length ys) x) (p .offset) as-planned)
+  bytes-are = subst (λ (i : ℕ). rewritten s (getD plan i 0) (w .at + h .size) h ≡ encodedAt plan (length ys) x)
+      (p .put .row) (subst (λ (i : ℕ). rewritten s (getD plan (length ys) 0) (i + h .size) h ≡ encodedAt plan
+      (length ys) x) (p .offset) as-planned)
 
   kept : length new ≡ length old
   kept =
       let l = le-trans (canonical-within ys (x ∷ later)) fits in
-      ap length (p .put .puts .1) ∙ length-append (canonical ys) (drop (length (canonical ys)) old) ∙ omega (arith, l, length-drop (length (canonical ys)) old)
+      ap length (p .put .puts .1) ∙ length-append (canonical ys) (drop (length (canonical ys)) old)
+      ∙ omega (arith, l, length-drop (length (canonical ys)) old)
 
   pub fits-here : w .out + length bytes ≤ length new
   fits-here = omega (arith, kept, ap length bytes-are, p .put .puts .0, one-fits plan (length old) ys x later planned few fits)
@@ -154,7 +163,8 @@ module _ {s : List ℕ} {zs ws : List Item} {u : State} {plan old : List ℕ} (g
   -- ---- one item more
 
   abbrev EntryMap : Type 0
-  EntryMap = (to′ : List ℕ) × (length to′ ≡ 256) × (length (next .entries) ≤ 256) × Mapped (itemsOf (next .entries)) to′ (noted x (namesFrom [] ys))
+  EntryMap = (to′ : List ℕ) × (length to′ ≡ 256) × (length (next .entries) ≤ 256)
+      × Mapped (itemsOf (next .entries)) to′ (noted x (namesFrom [] ys))
 
   entry-map : EntryMap
   unfolding after
@@ -178,7 +188,8 @@ module _ {s : List ℕ} {zs ws : List Item} {u : State} {plan old : List ℕ} (g
             rw (k, items-snoc (st .entries) (turned .y)) (mapped-entry (p .mapped) x v (omega (arith, o, p .width)) n i),
           )
 
-  pub put-on : (r : Spot) (next′ : List ℕ) → r .at ≡ w .at + h .size + contentLength h → r .row ≡ w .row + 1 → PutsAt (w .out) bytes (r .out) new next′ → Onward s zs u old next′ w r
+  pub put-on : (r : Spot) (next′ : List ℕ) → r .at ≡ w .at + h .size + contentLength h → r .row ≡ w .row + 1
+      → PutsAt (w .out) bytes (r .out) new next′ → Onward s zs u old next′ w r
   unfolding after
   put-on r next′ ea er q =
       let (to′, width, few′, mapped) = entry-map in
@@ -195,7 +206,8 @@ module _ {s : List ℕ} {zs ws : List Item} {u : State} {plan old : List ℕ} (g
               put =
                   record {
                     row = ap length more ∙ length-append ys (x ∷ []) ∙ omega (arith, p .put .row, er);
-                    puts = rw more (puts-more plan (length old) ys x later planned few fits (w .out) (r .out) old new next′ (p .put .puts) (rw bytes-are at q));
+                    puts = rw more (puts-more plan (length old) ys x later planned few fits (w .out)
+                        (r .out) old new next′ (p .put .puts) (rw bytes-are at q));
                   };
             };
         ahead = omega (arith, ea, size-within (drop (w .at) s) h (sym e));

@@ -45,7 +45,8 @@ pub record Partway (a b s : List ℕ) (zs : List Item) (u : State) (es links to 
 -- Where measuring has come to: on its way, or past the last name that there may be.
 pub data Stage (a b s : List ℕ) (zs : List Item) (u : State) (es links to plan : List ℕ) (t : Tally) : Type 0 where
   on : Partway a b s zs u es links to plan t → Stage a b s zs u es links to plan t
-  over : length s ≤ t .at → t .names ≡ max-entries + 1 → max-entries < length (namesFrom [] (zs ++ itemsOf (u .found))) → Stage a b s zs u es links to plan t
+  over : length s ≤ t .at → t .names ≡ max-entries + 1 → max-entries < length (namesFrom [] (zs ++ itemsOf (u .found)))
+      → Stage a b s zs u es links to plan t
 
 -- One item more.
 pub record Onward (a b s : List ℕ) (zs : List Item) (u : State) (es links to plan : List ℕ) (t r : Tally) : Type 0 where

@@ -1,5 +1,6 @@
 // The first pass over a bundle: its canonical length after what comes before it, and how each name is to be written.
-// It goes by headers. By the rows of `walk::next`, where a reference has lost its index, canonicalizing took 1.24 to 1.84 times as long (five corpora).
+// It goes by headers. By the rows of `walk::next`, where a reference has lost its index, canonicalizing took 1.24 to
+// 1.84 times as long (five corpora).
 ghost use mathlib.Core.Path.{_≡_};
 ghost use mathlib.Core.List.{List};
 ghost use mathlib.Core.Option.{some};
@@ -90,7 +91,8 @@ fn reference(
     next: usize,
     index: u64,
 ) -> Tally
-    requires { ⌜ (length (now to) ≡ max-entries) × (index < max-entries) × (length (now plan) ≡ max-rows) × (t .row < max-rows) × (t .size + max-item < 2 ^ 64) ⌝ }
+    requires { ⌜ (length (now to) ≡ max-entries) × (index < max-entries) × (length (now plan) ≡ max-rows)
+        × (t .row < max-rows) × (t .size + max-item < 2 ^ 64) ⌝ }
     ensures state { λ r. ⌜ r ≡ tallied t next (t .entries) (t .names) (length (header Code.reference (getD (now (to .entry)) index 0))) ⌝ }
     ensures planned { λ _. ⌜ now (plan .exit) ≡ set (now (plan .entry)) (t .row) (getD (now (to .entry)) index 0) ⌝ }
 {
@@ -100,7 +102,8 @@ fn reference(
 
 // A name of n bytes in full that ends at e, which is new.
 fn fresh(plan: &mut [u16; Row::MAX_COUNT], t: Tally, e: usize, n: usize) -> Tally
-    requires { ⌜ (length (now plan) ≡ max-rows) × (t .row < max-rows) × (t .size + max-item < 2 ^ 64) × (n ≤ max-item) × (t .entries < max-entries) × (t .names < max-entries) ⌝ }
+    requires { ⌜ (length (now plan) ≡ max-rows) × (t .row < max-rows) × (t .size + max-item < 2 ^ 64) × (n ≤ max-item)
+        × (t .entries < max-entries) × (t .names < max-entries) ⌝ }
     ensures state { λ r. ⌜ r ≡ tallied t e (t .entries + 1) (t .names + 1) n ⌝ }
     ensures planned { λ _. ⌜ now (plan .exit) ≡ set (now (plan .entry)) (t .row) max-entries ⌝ }
 {
@@ -135,10 +138,13 @@ fn name<'a>(
     t: Tally,
     h: Header,
 ) -> Tally
-    requires { ⌜ Here (now first) (now second) (now s) side (now entries) (now links) (now to) (now plan) t × (some h ≡ headerOf (drop (t .at) (now s))) × (Code.symbol ≤ h .code) × (h .code ≤ Code.key) ⌝ }
+    requires { ⌜ Here (now first) (now second) (now s) side (now entries) (now links) (now to) (now plan) t
+        × (some h ≡ headerOf (drop (t .at) (now s))) × (Code.symbol ≤ h .code) × (h .code ≤ Code.key) ⌝ }
     ensures { λ r. ⌜ ((zs : List Item) (u : State) → Bundled (now (first .entry)) (now (second .entry)) (now (s .entry)) side zs u
-        → Partway (now (first .entry)) (now (second .entry)) (now (s .entry)) zs u (now (entries .entry)) (now (links .entry)) (now (to .entry)) (now (plan .entry)) t
-        → Onward (now (first .entry)) (now (second .entry)) (now (s .entry)) zs u (now (entries .exit)) (now (links .exit)) (now (to .exit)) (now (plan .exit)) t r) ⌝ }
+        → Partway (now (first .entry)) (now (second .entry)) (now (s .entry)) zs u (now (entries .entry))
+        (now (links .entry)) (now (to .entry)) (now (plan .entry)) t
+        → Onward (now (first .entry)) (now (second .entry)) (now (s .entry)) zs u (now (entries .exit))
+        (now (links .exit)) (now (to .exit)) (now (plan .exit)) t r) ⌝ }
 {
     let next = t.at + h.size;
     let len = ByteLength::of(h);
@@ -174,10 +180,13 @@ fn headed<'a>(
     t: Tally,
     h: Header,
 ) -> Tally
-    requires { ⌜ Here (now first) (now second) (now s) side (now entries) (now links) (now to) (now plan) t × (some h ≡ headerOf (drop (t .at) (now s))) ⌝ }
+    requires { ⌜ Here (now first) (now second) (now s) side (now entries) (now links) (now to) (now plan) t
+        × (some h ≡ headerOf (drop (t .at) (now s))) ⌝ }
     ensures { λ r. ⌜ ((zs : List Item) (u : State) → Bundled (now (first .entry)) (now (second .entry)) (now (s .entry)) side zs u
-        → Partway (now (first .entry)) (now (second .entry)) (now (s .entry)) zs u (now (entries .entry)) (now (links .entry)) (now (to .entry)) (now (plan .entry)) t
-        → Onward (now (first .entry)) (now (second .entry)) (now (s .entry)) zs u (now (entries .exit)) (now (links .exit)) (now (to .exit)) (now (plan .exit)) t r) ⌝ }
+        → Partway (now (first .entry)) (now (second .entry)) (now (s .entry)) zs u (now (entries .entry))
+        (now (links .entry)) (now (to .entry)) (now (plan .entry)) t
+        → Onward (now (first .entry)) (now (second .entry)) (now (s .entry)) zs u (now (entries .exit))
+        (now (links .exit)) (now (to .exit)) (now (plan .exit)) t r) ⌝ }
 {
     let next = t.at + h.size;
     let code = h.code;
@@ -210,8 +219,10 @@ fn item<'a>(
 ) -> Tally
     requires { ⌜ Here (now first) (now second) (now s) side (now entries) (now links) (now to) (now plan) t × (t .at < length (now s)) ⌝ }
     ensures { λ r. ⌜ ((zs : List Item) (u : State) → Bundled (now (first .entry)) (now (second .entry)) (now (s .entry)) side zs u
-        → Partway (now (first .entry)) (now (second .entry)) (now (s .entry)) zs u (now (entries .entry)) (now (links .entry)) (now (to .entry)) (now (plan .entry)) t
-        → Onward (now (first .entry)) (now (second .entry)) (now (s .entry)) zs u (now (entries .exit)) (now (links .exit)) (now (to .exit)) (now (plan .exit)) t r) ⌝ }
+        → Partway (now (first .entry)) (now (second .entry)) (now (s .entry)) zs u (now (entries .entry))
+        (now (links .entry)) (now (to .entry)) (now (plan .entry)) t
+        → Onward (now (first .entry)) (now (second .entry)) (now (s .entry)) zs u (now (entries .exit))
+        (now (links .exit)) (now (to .exit)) (now (plan .exit)) t r) ⌝ }
 {
     match header_at(s, t.at) {
         // not in a bundle that reads
@@ -232,7 +243,9 @@ pub fn measure<'a>(
     from: Tally,
 ) -> Tally
     requires { ⌜ Ready (now first) (now second) (now s) side (now entries) (now links) (now plan) from ⌝ }
-    ensures { λ r. ⌜ ((zs : List Item) (u : State) → Begun (now (first .entry)) (now (second .entry)) (now (s .entry)) side zs u (now (entries .entry)) (now (links .entry)) (now (plan .entry)) from
+    ensures { λ r. ⌜ ((zs : List Item) (u : State)
+        → Begun (now (first .entry)) (now (second .entry)) (now (s .entry)) side zs u (now (entries .entry))
+        (now (links .entry)) (now (plan .entry)) from
         → Measures (now (first .entry)) (now (second .entry)) zs u (now (entries .exit)) (now (links .exit)) (now (plan .exit)) r) ⌝ }
 {
     let mut to = [0u16; SymbolTable::MAX_ENTRIES];

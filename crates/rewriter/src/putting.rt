@@ -1,5 +1,6 @@
 // The second pass over a bundle: each item in its canonical form, at the start of what is left of the buffer.
-// It goes by headers. By the rows of `walk::next`, so that each item is told apart twice, canonicalizing took 1.11 to 1.24 times as long (five corpora).
+// It goes by headers. By the rows of `walk::next`, so that each item is told apart twice, canonicalizing took 1.11 to
+// 1.24 times as long (five corpora).
 ghost use mathlib.Core.Path.{_≡_};
 ghost use mathlib.Core.List.{List, _++_};
 ghost use mathlib.Core.Option.{some};
@@ -81,7 +82,9 @@ fn put_item(out: &mut [u8], s: &[u8], refer: u16, next: usize, h: Header) -> Ste
 // The item of a header, at an offset of the buffer.
 fn put_next(out: &mut [u8], s: &[u8], plan: &[u16; Row::MAX_COUNT], w: Spot, h: Header) -> Spot
     requires { ⌜ Here (now s) (now plan) (now out) w × (some h ≡ headerOf (drop (w .at) (now s))) ⌝ }
-    ensures { λ r. ⌜ ((zs ws : List Item) (u : State) (old : List ℕ) → Planning (now (s .entry)) zs ws u (now (plan .entry)) (length old) → Putting (now (s .entry)) zs u old (now (out .entry)) w
+    ensures { λ r. ⌜ ((zs ws : List Item) (u : State) (old : List ℕ)
+        → Planning (now (s .entry)) zs ws u (now (plan .entry)) (length old)
+        → Putting (now (s .entry)) zs u old (now (out .entry)) w
         → Onward (now (s .entry)) zs u old (now (out .exit)) w r) ⌝ }
 {
     let o = w.out;
@@ -97,7 +100,9 @@ fn put_next(out: &mut [u8], s: &[u8], plan: &[u16; Row::MAX_COUNT], w: Spot, h: 
 // The next item.
 fn item(out: &mut [u8], s: &[u8], plan: &[u16; Row::MAX_COUNT], w: Spot) -> Spot
     requires { ⌜ Here (now s) (now plan) (now out) w × (w .at < length (now s)) ⌝ }
-    ensures { λ r. ⌜ ((zs ws : List Item) (u : State) (old : List ℕ) → Planning (now (s .entry)) zs ws u (now (plan .entry)) (length old) → Putting (now (s .entry)) zs u old (now (out .entry)) w
+    ensures { λ r. ⌜ ((zs ws : List Item) (u : State) (old : List ℕ)
+        → Planning (now (s .entry)) zs ws u (now (plan .entry)) (length old)
+        → Putting (now (s .entry)) zs u old (now (out .entry)) w
         → Onward (now (s .entry)) zs u old (now (out .exit)) w r) ⌝ }
 {
     match header_at(s, w.at) {
@@ -110,7 +115,8 @@ fn item(out: &mut [u8], s: &[u8], plan: &[u16; Row::MAX_COUNT], w: Spot) -> Spot
 // Writes a bundle after what comes before it.
 pub fn put(out: &mut [u8], s: &[u8], plan: &[u16; Row::MAX_COUNT], from: Spot) -> Spot
     requires { ⌜ Ready (now s) (now plan) (now out) from ⌝ }
-    ensures { λ r. ⌜ ((zs ws : List Item) (u : State) (old : List ℕ) → Planning (now (s .entry)) zs ws u (now (plan .entry)) (length old) → Put zs old (now (out .entry)) from
+    ensures { λ r. ⌜ ((zs ws : List Item) (u : State) (old : List ℕ)
+        → Planning (now (s .entry)) zs ws u (now (plan .entry)) (length old) → Put zs old (now (out .entry)) from
         → Put (zs ++ itemsOf (u .found)) old (now (out .exit)) r) ⌝ }
 {
     let mut w = Spot {

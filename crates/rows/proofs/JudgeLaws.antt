@@ -58,12 +58,14 @@ module _ (text : List ℕ) (p : Progress) (r : Row) where
       rule-6 h = rw (fine, keys, h)
 
       module _ (flat : tooDeep (p .place) (itemAt text r) ≡ false) where
-        pub rule-3 : isText (itemAt text r) && not (utf8 (itemAt text r .content)) ≡ true → first (rowRules text p r) ≡ some (failure InvalidUtf8 (p .row))
+        pub rule-3 : isText (itemAt text r) && not (utf8 (itemAt text r .content)) ≡ true
+            → first (rowRules text p r) ≡ some (failure InvalidUtf8 (p .row))
         unfolding rowRules first rule pick
         rule-3 h = rw (fine, keys, flat, h)
 
         module _ (texts : isText (itemAt text r) && not (utf8 (itemAt text r .content)) ≡ false) where
-          pub rule-8 : max-entries < length (noted (itemAt text r) (p .names)) → first (rowRules text p r) ≡ some (failure TooManyEntries (p .row))
+          pub rule-8 : max-entries < length (noted (itemAt text r) (p .names))
+              → first (rowRules text p r) ≡ some (failure TooManyEntries (p .row))
           unfolding rowRules first rule pick withItem
           rule-8 h = rw (fine, keys, flat, texts, ltb-yes h)
 
@@ -82,7 +84,8 @@ numbered invalid-utf8 z = omega arith
 numbered too-many-entries z = omega arith
 
 module _ (text : List ℕ) (p : Progress) (r : Row) where
-  judged-bad : (e : Error) → first (rowRules text p r) ≡ some (failure e (p .row)) → (rest : List Row) → judge text p (r ∷ rest) ≡ fail e (p .row)
+  judged-bad : (e : Error) → first (rowRules text p r) ≡ some (failure e (p .row)) → (rest : List Row)
+      → judge text p (r ∷ rest) ≡ fail e (p .row)
   unfolding judge then unless fail
   judged-bad e q rest = rw q
 
@@ -104,7 +107,16 @@ module _ {text es links st plan : List ℕ} {xs : List Row} {s : State} (a : Aft
       rw q
       (record {
         taken = λ z. absurd (numbered k z);
-        refused = λ _. (refl, λ rest. record { error = e; of-row = k; number = refl; is = a .run (r ∷ rest) ∙ judged-bad text (a .progress) r e rules rest ∙ ap (fail e) (a .row) });
+        refused = λ _. (
+          refl,
+          λ rest. record {
+            error = e;
+            of-row = k;
+            number = refl;
+            is = a .run (r ∷ rest) ∙ judged-bad text (a .progress) r e rules rest
+                ∙ ap (fail e) (a .row);
+          },
+        );
       })
 
   -- it is taken
@@ -119,7 +131,8 @@ module _ {text es links st plan : List ℕ} {xs : List Row} {s : State} (a : Aft
         taken = λ _. (
           record {
             progress = withItem (a .progress) x;
-            run = λ rest. ap (judge text begin) (append-assoc xs (r ∷ []) rest) ∙ a .run (r ∷ rest) ∙ judged-good text (a .progress) r rules rest;
+            run = λ rest. ap (judge text begin) (append-assoc xs (r ∷ []) rest) ∙ a .run (r ∷ rest)
+                ∙ judged-good text (a .progress) r rules rest;
             fine = all-append _ xs (r ∷ []) (a .fine) (passed text (a .progress) r rules, tt);
             items = ap (λ (l : List Item). l ++ (x ∷ [])) (a .items) ∙ sym (map-append (itemAt text) xs (r ∷ []));
             names = ap (noted x) (a .names) ∙ sym (names-more (a .progress .items) x);
@@ -138,35 +151,48 @@ module _ {text es links st plan : List ℕ} {xs : List Row} {s : State} (a : Aft
       x = itemAt text r
 
 -- The same for an equal row.
-pub next-row : {text es links st plan : List ℕ} {xs : List Row} {q r : Row} {s t : State} → q ≡ r → Next text es links st plan xs q s t → Next text es links st plan xs r s t
+pub next-row : {text es links st plan : List ℕ} {xs : List Row} {q r : Row} {s t : State} → q ≡ r
+    → Next text es links st plan xs q s t → Next text es links st plan xs r s t
 next-row {text} {es} {links} {st} {plan} {xs} {q} {r} {s} {t} e = subst (λ (z : Row). Next text es links st plan xs z s t) e
 
 -- A state that is ready takes one item more.
 pub ready-more : {text st : List ℕ} {s : State} → Ready text st s → (n : ℕ) → n ≤ max-item
-    → (length st ≡ max-depth) × (s .depth ≤ max-depth) × (2 ≤ bottom st (s .depth) (s .left)) × (s .row + 1 < 2 ^ 64) × (s .size + n < 2 ^ 64)
+    → (length st ≡ max-depth) × (s .depth ≤ max-depth) × (2 ≤ bottom st (s .depth) (s .left)) × (s .row + 1 < 2 ^ 64)
+    × (s .size + n < 2 ^ 64)
 ready-more w n l = (w .stack, w .deep, w .top, omega (arith, w .row), omega (arith, w .small, w .row))
 
 module _ {text es links st plan : List ℕ} {xs : List Row} {s : State} (a : After text es links st plan xs s) (r : Row) where
   pub value-next : {es′ links′ plan′ : List ℕ} (c n : ℕ) {t : State} → t ≡ valued st s c n → s .row < max-rows → n ≤ max-item
-      → first (rowRules text (a .progress) r) ≡ none → isKey (itemAt text r) ≡ false → isContainer (itemAt text r) && ltb 0 (r .number) ≡ false
-      → Measured plan-size text text es′ links′ plan′ (a .progress .items ++ (itemAt text r ∷ [])) c (s .size + n) → Next text es′ links′ st plan′ xs r s t
+      → first (rowRules text (a .progress) r) ≡ none → isKey (itemAt text r) ≡ false → isContainer (itemAt text r)
+      && ltb 0 (r .number) ≡ false
+      → Measured plan-size text text es′ links′ plan′ (a .progress .items ++ (itemAt text r ∷ [])) c (s .size + n)
+      → Next text es′ links′ st plan′ xs r s t
   unfolding valued itemAt
-  value-next c n e lt l rules key box m = rw e (take-next a r (valued st s c n) rules refl refl refl (omega arith) (stands-value (a .stands) (itemAt text r) lt key box) m)
+  value-next c n e lt l rules key box m = rw e (take-next a r (valued st s c n) rules refl refl refl (omega arith)
+      (stands-value (a .stands) (itemAt text r) lt key box) m)
 
-  pub named-next : {es′ links′ plan′ : List ℕ} (c n : ℕ) {t : State} → t ≡ namedBy st s (r .kind) c n → s .row < max-rows → n ≤ max-item → r .kind ≢ Kind.container
+  pub named-next : {es′ links′ plan′ : List ℕ} (c n : ℕ) {t : State} → t ≡ namedBy st s (r .kind) c n
+      → s .row < max-rows → n ≤ max-item → r .kind ≢ Kind.container
       → first (rowRules text (a .progress) r) ≡ none
-      → Measured plan-size text text es′ links′ plan′ (a .progress .items ++ (itemAt text r ∷ [])) c (s .size + n) → Next text es′ links′ st plan′ xs r s t
+      → Measured plan-size text text es′ links′ plan′ (a .progress .items ++ (itemAt text r ∷ [])) c (s .size + n)
+      → Next text es′ links′ st plan′ xs r s t
   unfolding namedBy keyedBy itemAt isKey isContainer
   named-next c n e lt l box rules m =
       cases (eqb (r .kind) Kind.key)
-      (λ k. rw (e ∙ pick-yes _ _ k) (take-next a r (keyedBy s c n) rules refl refl refl (omega arith) (stands-key (a .stands) (itemAt text r) k) m))
+      (λ k. rw (e ∙ pick-yes _ _ k) (take-next a r (keyedBy s c n) rules refl refl refl (omega arith)
+      (stands-key (a .stands) (itemAt text r) k) m))
       (λ k. value-next c n (e ∙ pick-no _ _ k) lt l rules k (and-no-left _ (eqb-no box)) m)
 
-  pub open-next : (n : ℕ) {st′ : List ℕ} {t : State} → t ≡ openedBy s (r .number) n → st′ ≡ set st (s .depth) (s .left) → s .depth < max-depth → n ≤ max-item
-      → first (rowRules text (a .progress) r) ≡ none → isKey (itemAt text r) ≡ false → isContainer (itemAt text r) && ltb 0 (r .number) ≡ true
-      → Measured plan-size text text es links plan (a .progress .items ++ (itemAt text r ∷ [])) (s .names) (s .size + n) → Next text es links st′ plan xs r s t
+  pub open-next : (n : ℕ) {st′ : List ℕ} {t : State} → t ≡ openedBy s (r .number) n → st′ ≡ set st (s .depth) (s .left)
+      → s .depth < max-depth → n ≤ max-item
+      → first (rowRules text (a .progress) r) ≡ none → isKey (itemAt text r) ≡ false → isContainer (itemAt text r)
+      && ltb 0 (r .number) ≡ true
+      → Measured plan-size text text es links plan (a .progress .items ++ (itemAt text r ∷ [])) (s .names) (s .size + n)
+      → Next text es links st′ plan xs r s t
   unfolding openedBy itemAt
-  open-next n e f lt l rules key box m = rw (e, f) (take-next a r (openedBy s (r .number) n) rules refl refl refl (omega arith) (stands-open (a .stands) (itemAt text r) key box lt) m)
+  open-next n e f lt l rules key box m = rw (e, f)
+      (take-next a r (openedBy s (r .number) n) rules refl refl refl (omega arith)
+      (stands-open (a .stands) (itemAt text r) key box lt) m)
 
   -- ---- what the rules ask
 
@@ -182,7 +208,8 @@ module _ {text es links st plan : List ℕ} {xs : List Row} {s : State} (a : Aft
 
   pub depth-is : tooDeep (a .progress .place) (itemAt text r) ≡ (eqb (r .kind) Kind.container && leb max-depth (s .depth))
   unfolding itemAt isContainer
-  depth-is = ap (λ n. eqb (r .kind) Kind.container && leb max-depth n) (ap length (a .stands .opened) ∙ opened-length st (s .depth) (s .left))
+  depth-is = ap (λ n. eqb (r .kind) Kind.container && leb max-depth n) (ap length (a .stands .opened)
+      ∙ opened-length st (s .depth) (s .left))
 
   pub no-container : r .kind ≢ Kind.container → isContainer (itemAt text r) && ltb 0 (r .number) ≡ false
   unfolding itemAt isContainer
@@ -209,5 +236,6 @@ module _ {text es links st plan : List ℕ} {xs : List Row} {s : State} (a : Aft
     pub few-names : length (noted (itemAt text r) (a .progress .names)) ≤ max-entries
     few-names = omega (arith, ap length (noted-plain (itemAt text r) (a .progress .names) no-name), names-count, a .measured .table .table .few)
 
-    pub measured-plain : (n : ℕ) → s .row < max-rows → n ≡ length (full (itemAt text r)) → Measured plan-size text text es links plan (a .progress .items ++ (itemAt text r ∷ [])) (s .names) (s .size + n)
+    pub measured-plain : (n : ℕ) → s .row < max-rows → n ≡ length (full (itemAt text r))
+        → Measured plan-size text text es links plan (a .progress .items ++ (itemAt text r ∷ [])) (s .names) (s .size + n)
     measured-plain n lt e = measure-plain (a .measured) (itemAt text r) (omega (arith, items-count)) n no-name e

@@ -38,43 +38,55 @@ module _ (text : List ℕ) (r : Row) (h : hasContent (r .kind) ≡ true) where
   pub content-bad : r .kind ≤ Kind.key → isBad text r ≡ ltb (length text) (r .start + r .number)
   content-bad l = bad-content text r h ∙ rw (ltb-no {a = 11} {b = r .kind} l)
 
-  pub content-full : isBad text r ≡ false → (m : ℕ) → m ≡ length (header (r .kind - Kind.bytes) (r .number)) → m + r .number ≡ length (full (itemAt text r))
+  pub content-full : isBad text r ≡ false → (m : ℕ) → m ≡ length (header (r .kind - Kind.bytes) (r .number))
+      → m + r .number ≡ length (full (itemAt text r))
   unfolding itemAt
   content-full fine m e = omega (arith, length-sized (itemAt text r) (content-kinds (r .kind) h .0), content-length text r fine h)
 
-  pub content-small : isBad text r ≡ false → length text ≤ max-bytes → (m : ℕ) → m ≡ length (header (r .kind - Kind.bytes) (r .number)) → m + r .number ≤ max-item
-  content-small fine l m e = let i = inside text r fine h in omega (arith, i, header-most (r .kind - Kind.bytes) (r .number) (omega (arith, i)))
+  pub content-small : isBad text r ≡ false → length text ≤ max-bytes → (m : ℕ)
+      → m ≡ length (header (r .kind - Kind.bytes) (r .number)) → m + r .number ≤ max-item
+  content-small fine l m e = let i = inside text r fine h in
+      omega (arith, i, header-most (r .kind - Kind.bytes) (r .number) (omega (arith, i)))
 
 -- ---- no name
 
-module _ {text es links st plan : List ℕ} {xs : List Row} {s : State} (a : After text es links st plan xs s) (r : Row) (lo : r .kind < Kind.symbol) (fine : isBad text r ≡ false) where
+module _ {text es links st plan : List ℕ} {xs : List Row} {s : State} (a : After text es links st plan xs s) (r : Row)
+    (lo : r .kind < Kind.symbol) (fine : isBad text r ≡ false) where
   text-is : isText (itemAt text r) ≡ eqb (r .kind) Kind.string
   unfolding itemAt isText
-  text-is = equal (r .kind) 9 (λ e. leb-yes {a = 9} {b = r .kind} (omega arith) ∙ sym (eqb-yes e)) (λ e. leb-no {a = 9} {b = r .kind} (omega arith) ∙ sym (eqb-no e))
+  text-is = equal (r .kind) 9 (λ e. leb-yes {a = 9} {b = r .kind} (omega arith) ∙ sym (eqb-yes e))
+      (λ e. leb-no {a = 9} {b = r .kind} (omega arith) ∙ sym (eqb-no e))
 
   flat : r .kind ≢ Kind.container → tooDeep (a .progress .place) (itemAt text r) ≡ false
   flat n = depth-is a r ∙ and-no-left _ (eqb-no n)
 
-  pub plain-deep : r .kind ≡ Kind.container → max-depth ≤ s .depth → first (rowRules text (a .progress) r) ≡ some (failure TooDeep (a .progress .row))
+  pub plain-deep : r .kind ≡ Kind.container → max-depth ≤ s .depth
+      → first (rowRules text (a .progress) r) ≡ some (failure TooDeep (a .progress .row))
   plain-deep e d = rule-6 text (a .progress) r fine (no-keys a r lo) (depth-is a r ∙ and-yes (eqb-yes e) (leb-yes d))
 
-  pub plain-text : r .kind ≢ Kind.container → eqb (r .kind) Kind.string && not (utf8 (contentOf text r)) ≡ true → first (rowRules text (a .progress) r) ≡ some (failure InvalidUtf8 (a .progress .row))
+  pub plain-text : r .kind ≢ Kind.container → eqb (r .kind) Kind.string && not (utf8 (contentOf text r)) ≡ true
+      → first (rowRules text (a .progress) r) ≡ some (failure InvalidUtf8 (a .progress .row))
   unfolding itemAt
   plain-text n e = rule-3 text (a .progress) r fine (no-keys a r lo) (flat n) (ap (λ b. b && not (utf8 (contentOf text r))) text-is ∙ e)
 
-  pub plain-none : tooDeep (a .progress .place) (itemAt text r) ≡ false → eqb (r .kind) Kind.string && not (utf8 (contentOf text r)) ≡ false → first (rowRules text (a .progress) r) ≡ none
+  pub plain-none : tooDeep (a .progress .place) (itemAt text r) ≡ false → eqb (r .kind) Kind.string
+      && not (utf8 (contentOf text r)) ≡ false → first (rowRules text (a .progress) r) ≡ none
   unfolding itemAt
-  plain-none d e = rule-none text (a .progress) r fine (no-keys a r lo) d (ap (λ b. b && not (utf8 (contentOf text r))) text-is ∙ e) (few-names a r lo)
+  plain-none d e = rule-none text (a .progress) r fine (no-keys a r lo) d
+      (ap (λ b. b && not (utf8 (contentOf text r))) text-is ∙ e) (few-names a r lo)
 
-  pub value-none : r .kind ≢ Kind.container → eqb (r .kind) Kind.string && not (utf8 (contentOf text r)) ≡ false → first (rowRules text (a .progress) r) ≡ none
+  pub value-none : r .kind ≢ Kind.container → eqb (r .kind) Kind.string && not (utf8 (contentOf text r)) ≡ false
+      → first (rowRules text (a .progress) r) ≡ none
   value-none n e = plain-none (flat n) e
 
   pub container-none : r .kind ≡ Kind.container → s .depth < max-depth → first (rowRules text (a .progress) r) ≡ none
-  container-none e d = plain-none (depth-is a r ∙ and-no-right (eqb (r .kind) Kind.container) (leb-no d)) (and-no-left _ (eqb-no {a = r .kind} {b = 9} (λ q. omega arith)))
+  container-none e d = plain-none (depth-is a r ∙ and-no-right (eqb (r .kind) Kind.container) (leb-no d))
+      (and-no-left _ (eqb-no {a = r .kind} {b = 9} (λ q. omega arith)))
 
 -- ---- no content
 
-pub bare : (text : List ℕ) (k n : ℕ) → hasContent k ≡ false → itemAt text (record { kind = k; number = n; start = 0 }) ≡ record { kind = k; number = n; content = [] }
+pub bare : (text : List ℕ) (k n : ℕ) → hasContent k ≡ false
+    → itemAt text (record { kind = k; number = n; start = 0 }) ≡ record { kind = k; number = n; content = [] }
 unfolding itemAt contentOf
 bare text k n h = item-path refl refl (pick-no _ _ h)
 
@@ -84,19 +96,23 @@ no-content = refl
 
 module _ (text : List ℕ) (n : ℕ) where
   pub container-fine : isBad text (record { kind = 8; number = n; start = 0 }) ≡ false
-  container-fine = bad-plain text (record { kind = 8; number = n; start = 0 }) (omega arith) no-content refl ∙ sym (number-other 8 n (omega arith) (λ e. omega arith) (λ e. omega arith))
+  container-fine = bad-plain text (record { kind = 8; number = n; start = 0 }) (omega arith) no-content refl
+      ∙ sym (number-other 8 n (omega arith) (λ e. omega arith) (λ e. omega arith))
 
   pub container-full : length (header Code.container n) ≡ length (full (itemAt text (record { kind = 8; number = n; start = 0 })))
-  container-full = omega (arith, length-sized (record { kind = 8; number = n; content = [] }) (omega arith)) ∙ ap (λ x. length (full x)) (sym (bare text 8 n no-content))
+  container-full = omega (arith, length-sized (record { kind = 8; number = n; content = [] }) (omega arith))
+      ∙ ap (λ x. length (full x)) (sym (bare text 8 n no-content))
 
 -- ---- names
 
-module _ {text es links st plan : List ℕ} {xs : List Row} {s : State} (a : After text es links st plan xs s) (r : Row) (name : Kind.symbol ≤ r .kind) (fine : isBad text r ≡ false) where
+module _ {text es links st plan : List ℕ} {xs : List Row} {s : State} (a : After text es links st plan xs s) (r : Row)
+    (name : Kind.symbol ≤ r .kind) (fine : isBad text r ≡ false) where
   pub is-name : isName (itemAt text r) ≡ true
   unfolding itemAt isName
   is-name = leb-yes name
 
-  pub name-again : eqb (s .keyed) 1 && eqb (r .kind) Kind.key ≡ true → first (rowRules text (a .progress) r) ≡ some (failure UnexpectedKey (a .progress .row))
+  pub name-again : eqb (s .keyed) 1 && eqb (r .kind) Kind.key ≡ true
+      → first (rowRules text (a .progress) r) ≡ some (failure UnexpectedKey (a .progress .row))
   name-again e = rule-5 text (a .progress) r fine (keys-are a r ∙ e)
 
   module _ (alone : eqb (s .keyed) 1 && eqb (r .kind) Kind.key ≡ false) where
@@ -107,7 +123,8 @@ module _ {text es links st plan : List ℕ} {xs : List Row} {s : State} (a : Aft
     unfolding itemAt isText
     name-text = leb-yes {a = 9} {b = r .kind} (omega arith)
 
-    pub name-invalid : not (utf8 (contentOf text r)) ≡ true → first (rowRules text (a .progress) r) ≡ some (failure InvalidUtf8 (a .progress .row))
+    pub name-invalid : not (utf8 (contentOf text r)) ≡ true
+        → first (rowRules text (a .progress) r) ≡ some (failure InvalidUtf8 (a .progress .row))
     unfolding itemAt
     name-invalid u = rule-3 text (a .progress) r fine (keys-are a r ∙ alone) name-flat (and-yes name-text u)
 
@@ -115,7 +132,8 @@ module _ {text es links st plan : List ℕ} {xs : List Row} {s : State} (a : Aft
     unfolding itemAt
     good-text u = and-no-right (isText (itemAt text r)) (ap not u)
 
-    pub known-none : (i : ℕ) → index (itemAt text r) (namesFrom [] (a .progress .items)) ≡ some i → first (rowRules text (a .progress) r) ≡ none
+    pub known-none : (i : ℕ) → index (itemAt text r) (namesFrom [] (a .progress .items)) ≡ some i
+        → first (rowRules text (a .progress) r) ≡ none
     unfolding itemAt
     known-none i e =
         rule-none text (a .progress) r fine (keys-are a r ∙ alone) name-flat (good-text (known-text (a .measured) (itemAt text r) i e))

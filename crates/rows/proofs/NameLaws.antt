@@ -48,7 +48,8 @@ module _ (text : List ℕ) (r : Row) (lo : Kind.symbol ≤ r .kind) (fine : isBa
   name-inside = omega (arith, content-length text r fine has-content, inside text r fine has-content)
 
   name-part : contentOf text r ≡ take (length (contentOf text r)) (drop (r .start) text)
-  name-part = sym (content-part text r fine has-content) ∙ ap (λ n. take n (drop (r .start) text)) (sym (content-length text r fine has-content))
+  name-part = sym (content-part text r fine has-content)
+      ∙ ap (λ n. take n (drop (r .start) text)) (sym (content-length text r fine has-content))
 
   -- where its bytes stand
   pub name-stands : {part : List ℕ} → length text ≤ max-bytes → part ≡ contentOf text r → Part text text (r .kind) 0 (r .start) part
@@ -65,7 +66,8 @@ module _ (text : List ℕ) (r : Row) (lo : Kind.symbol ≤ r .kind) (fine : isBa
       })
 
   -- a guess that is right
-  module _ {es links : List ℕ} {count g : ℕ} (ch : Chained text text es links count) (p : Placed es count g (r .kind) (r .start) (r .number)) where
+  module _ {es links : List ℕ} {count g : ℕ} (ch : Chained text text es links count)
+      (p : Placed es count g (r .kind) (r .start) (r .number)) where
     guessed-name : nameIn text text (getD es g 0) ≡ itemAt text r
     unfolding nameIn partIn itemAt
     guessed-name =
@@ -80,23 +82,31 @@ module _ (text : List ℕ) (r : Row) (lo : Kind.symbol ≤ r .kind) (fine : isBa
 
 -- ---- one name more
 
-module _ {text es links st plan : List ℕ} {xs : List Row} {s : State} (a : After text es links st plan xs s) (r : Row) (w : Naming text s r) (ready : Ready text st s) where
+module _ {text es links st plan : List ℕ} {xs : List Row} {s : State} (a : After text es links st plan xs s) (r : Row)
+    (w : Naming text s r) (ready : Ready text st s) where
   -- the search is in the names of the items
-  pub among : {o : Option ℕ} → index (itemAt text r) (namesIn text text (take (s .names) es)) ≡ o → index (itemAt text r) (namesFrom [] (a .progress .items)) ≡ o
+  pub among : {o : Option ℕ} → index (itemAt text r) (namesIn text text (take (s .names) es)) ≡ o
+      → index (itemAt text r) (namesFrom [] (a .progress .items)) ≡ o
   among e = ap (index (itemAt text r)) (sym (a .measured .names)) ∙ e
 
   -- and it is by the bytes
-  pub looked-up : {part : List ℕ} {o : Option ℕ} → part ≡ contentOf text r → index (name (r .kind) part) (namesIn text text (take (s .names) es)) ≡ o
+  pub looked-up : {part : List ℕ} {o : Option ℕ} → part ≡ contentOf text r
+      → index (name (r .kind) part) (namesIn text text (take (s .names) es)) ≡ o
       → index (itemAt text r) (namesIn text text (take (s .names) es)) ≡ o
-  looked-up e f = ap (λ (x : Item). index x (namesIn text text (take (s .names) es))) (name-is text r (w .name) (w .fine) ∙ ap (name (r .kind)) (sym e)) ∙ f
+  looked-up e f = ap (λ (x : Item). index x (namesIn text text (take (s .names) es)))
+      (name-is text r (w .name) (w .fine) ∙ ap (name (r .kind)) (sym e)) ∙ f
 
-  pub known-next : {plan′ : List ℕ} (i : ℕ) {t : State} → i < 2 ^ 64 → index (itemAt text r) (namesIn text text (take (s .names) es)) ≡ some i
-      → t ≡ namedBy st s (r .kind) (s .names) (length (header Code.reference i)) → plan′ ≡ set plan (s .row) i → Next text es links st plan′ xs r s t
+  pub known-next : {plan′ : List ℕ} (i : ℕ) {t : State} → i < 2 ^ 64
+      → index (itemAt text r) (namesIn text text (take (s .names) es)) ≡ some i
+      → t ≡ namedBy st s (r .kind) (s .names) (length (header Code.reference i)) → plan′ ≡ set plan (s .row) i
+      → Next text es links st plan′ xs r s t
   known-next i l e et ep =
       rw ep
-      (named-next a r (s .names) (length (header Code.reference i)) et (ready .row) (omega (arith, header-most 7 i l)) (λ q. omega (arith, w .name))
+      (named-next a r (s .names) (length (header Code.reference i)) et (ready .row) (omega (arith, header-most 7 i l))
+      (λ q. omega (arith, w .name))
       (known-none a r (w .name) (w .fine) (w .alone) i (among e))
-      (rw (← items-count a r) (measure-known (a .measured) (itemAt text r) (omega (arith, items-count a r, ready .row)) i (length (header Code.reference i)) (is-name a r (w .name) (w .fine)) (among e) refl)))
+      (rw (← items-count a r) (measure-known (a .measured) (itemAt text r) (omega (arith, items-count a r, ready .row))
+      i (length (header Code.reference i)) (is-name a r (w .name) (w .fine)) (among e) refl)))
 
   pub fresh-next : {es′ links′ plan′ part : List ℕ} (g v : ℕ) {t : State} → part ≡ contentOf text r → utf8 (contentOf text r) ≡ true
       → Entered text text es es′ links′ (s .names) (name (r .kind) part) (r .start)
@@ -105,10 +115,13 @@ module _ {text es links st plan : List ℕ} {xs : List Row} {s : State} (a : Aft
   unfolding itemAt
   fresh-next g v e u n et ep =
       rw ep
-      (named-next a r (s .names + 1) (m + r .number) et (ready .row) (content-small text r hc (w .fine) (ready .short) m refl) (λ q. omega (arith, w .name))
+      (named-next a r (s .names + 1) (m + r .number) et (ready .row)
+      (content-small text r hc (w .fine) (ready .short) m refl) (λ q. omega (arith, w .name))
       (fresh-none a r (w .name) (w .fine) (w .alone) new-name u (n .room))
-      (measure-fresh (a .measured) (itemAt text r) (omega (arith, count, ready .row)) _ _ (set (set plan (max-rows + g) v) (s .row) no-index) (n .entry) (m + r .number)
-      (is-name a r (w .name) (w .fine)) new-name u (content-full text r hc (w .fine) m refl) (n .chained) (n .stored) (n .named ∙ ap (name (r .kind)) e ∙ sym (name-is text r (w .name) (w .fine)))
+      (measure-fresh (a .measured) (itemAt text r) (omega (arith, count, ready .row)) _ _
+      (set (set plan (max-rows + g) v) (s .row) no-index) (n .entry) (m + r .number)
+      (is-name a r (w .name) (w .fine)) new-name u (content-full text r hc (w .fine) m refl) (n .chained) (n .stored)
+      (n .named ∙ ap (name (r .kind)) e ∙ sym (name-is text r (w .name) (w .fine)))
       (length-set (set plan (max-rows + g) v) (s .row) no-index ∙ length-set plan (max-rows + g) v ∙ a .measured .plan-size) old new))
     where
       m : ℕ
@@ -129,4 +142,5 @@ module _ {text es links st plan : List ℕ} {xs : List Row} {s : State} (a : Aft
           ∙ getD-set-other plan (max-rows + g) j v 0 (λ q. omega (arith, count, ready .row))
 
       new : getD (set (set plan (max-rows + g) v) (s .row) no-index) (length (a .progress .items)) 0 ≡ no-index
-      new = rw count (getD-set-same (set plan (max-rows + g) v) (s .row) no-index 0 (omega (arith, length-set plan (max-rows + g) v, a .measured .plan-size, ready .row)))
+      new = rw count (getD-set-same (set plan (max-rows + g) v) (s .row) no-index 0
+          (omega (arith, length-set plan (max-rows + g) v, a .measured .plan-size, ready .row)))

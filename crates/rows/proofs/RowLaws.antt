@@ -20,7 +20,8 @@ use Rattle.rows.specs.Rules.{badNumber}
 -- ---- a row with no start
 
 pub row-is : (r : Row) (k : ℕ) → r .kind ≡ k → r .start ≡ 0 → _≡_ {A = Row} (record { kind = k; number = r .number; start = 0 }) r
-row-is r k e z = ap (λ k′. record { kind = k′; number = r .number; start = 0 }) (sym e) ∙ ap (λ s. record { kind = r .kind; number = r .number; start = s }) (sym z)
+row-is r k e z = ap (λ k′. record { kind = k′; number = r .number; start = 0 }) (sym e)
+    ∙ ap (λ s. record { kind = r .kind; number = r .number; start = s }) (sym z)
 
 -- ---- kinds with content
 
@@ -64,7 +65,8 @@ module _ (k n : ℕ) where
 
   pub number-single : k ≡ 3 → leb 4294967296 n ≡ badNumber k n
   unfolding badNumber
-  number-single h = rw (ltb-no {a = k} {b = 3} (omega arith), eqb-yes h, eqb-no {a = k} {b = 7} (λ e. omega arith)) (sym (or-false (leb 4294967296 n)))
+  number-single h = rw (ltb-no {a = k} {b = 3} (omega arith), eqb-yes h, eqb-no {a = k} {b = 7} (λ e. omega arith))
+      (sym (or-false (leb 4294967296 n)))
 
   number-high : 5 ≤ k → badNumber k n ≡ eqb k 7 && eqb n negative-alias
   unfolding badNumber
@@ -116,4 +118,5 @@ module _ (text : List ℕ) (r : Row) where
 
       pub content-length : length (contentOf text r) ≡ r .number
       content-length =
-          ap length (sym content-part) ∙ length-take-le (r .number) (drop (r .start) text) (omega (arith, length-drop (r .start) text, inside))
+          ap length (sym content-part)
+          ∙ length-take-le (r .number) (drop (r .start) text) (omega (arith, length-drop (r .start) text, inside))

@@ -59,7 +59,9 @@ ends st zero l f h = record { opened = refl; key = refl; deep = omega arith; hig
 ends st (suc d) l f h =
     order 2 l
     (λ u. rw (ltb-no {a = l} {b = 2} u) (record { opened = refl; key = refl; deep = omega arith; high = omega arith }))
-    (λ u. let e = ends st d (getD st d 0) f h in rw (ltb-yes {a = l} {b = 2} u) (record { opened = e .opened; key = e .key; deep = omega (arith, e .deep); high = e .high }))
+    (λ u. let e = ends st d (getD st d 0) f h in
+    rw (ltb-yes {a = l} {b = 2} u)
+    (record { opened = e .opened; key = e .key; deep = omega (arith, e .deep); high = e .high }))
 
 -- ---- a store above changes nothing below
 
@@ -67,21 +69,25 @@ opened-set : (st : List ℕ) (i v d l : ℕ) → d ≤ i → openedOf (set st i 
 unfolding openedOf
 opened-set st i v zero l h = refl
 opened-set st i v (suc d) l h =
-    ap (λ (os : List ℕ). l ∷ os) (opened-set st i v d (getD (set st i v) d 0) (omega arith) ∙ ap (openedOf st d) (getD-set-other st i d v 0 (λ e. omega arith)))
+    ap (λ (os : List ℕ). l ∷ os) (opened-set st i v d (getD (set st i v) d 0) (omega arith)
+    ∙ ap (openedOf st d) (getD-set-other st i d v 0 (λ e. omega arith)))
 
 bottom-set : (st : List ℕ) (i v d l : ℕ) → d ≤ i → bottom (set st i v) d l ≡ bottom st d l
 unfolding bottom
 bottom-set st i v zero l h = refl
-bottom-set st i v (suc d) l h = bottom-set st i v d (getD (set st i v) d 0) (omega arith) ∙ ap (bottom st d) (getD-set-other st i d v 0 (λ e. omega arith))
+bottom-set st i v (suc d) l h = bottom-set st i v d (getD (set st i v) d 0) (omega arith)
+    ∙ ap (bottom st d) (getD-set-other st i d v 0 (λ e. omega arith))
 
 -- ---- the place after an item
 
 module _ {st : List ℕ} {d l k row : ℕ} {p : Place} (s : Stands st d l k row p) (x : Item) where
-  pub stands-value : row < max-rows → isKey x ≡ false → isContainer x && ltb 0 (x .number) ≡ false → let to = closed st d l in Stands st (to .depth) (to .left) 0 (row + 1) (moved p x)
+  pub stands-value : row < max-rows → isKey x ≡ false → isContainer x && ltb 0 (x .number) ≡ false
+      → let to = closed st d l in Stands st (to .depth) (to .left) 0 (row + 1) (moved p x)
   unfolding moved
   stands-value lt key box =
       let e = ends st d l (p .fields) (omega (arith, s .high)) in
-      let m : moved p x ≡ ended (openedOf st d l) (p .fields) = pick-no _ _ key ∙ pick-no _ _ box ∙ ap (λ (os : List ℕ). ended os (p .fields)) (s .opened) in
+      let m : moved p x ≡ ended (openedOf st d l) (p .fields) = pick-no _ _ key ∙ pick-no _ _ box
+      ∙ ap (λ (os : List ℕ). ended os (p .fields)) (s .opened) in
       record {
         size = s .size;
         deep = omega (arith, e .deep, s .deep);
@@ -94,7 +100,8 @@ module _ {st : List ℕ} {d l k row : ℕ} {p : Place} (s : Stands st d l k row 
   unfolding moved pick
   stands-key key = record { size = s .size; deep = s .deep; high = omega (arith, s .high); opened = rw key (s .opened); key = rw key }
 
-  pub stands-open : isKey x ≡ false → isContainer x && ltb 0 (x .number) ≡ true → d < max-depth → Stands (set st d l) (d + 1) (x .number) 0 (row + 1) (moved p x)
+  pub stands-open : isKey x ≡ false → isContainer x && ltb 0 (x .number) ≡ true → d < max-depth
+      → Stands (set st d l) (d + 1) (x .number) 0 (row + 1) (moved p x)
   unfolding moved pick openedOf bottom
   stands-open key box lt =
       let v = getD-set-same st d l 0 (omega (arith, s .size)) in

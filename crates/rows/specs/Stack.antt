@@ -1,4 +1,5 @@
--- The place among containers as judging keeps it: how many are open, the fields left in the innermost, and a stack of the fields left around it.
+-- The place among containers as judging keeps it: how many are open, the fields left in the innermost, and a stack of
+-- the fields left around it.
 -- At the top the fields left are more than there can be rows, so that they never end.
 use Prim.Native.Nat.{ℕ, zero, suc, _+_, _-_, _≤_}
 use mathlib.Core.Path.{_≡_}

@@ -8,7 +8,16 @@ use Rattle.rows.specs.declared.state.State.{State}
 use Rattle.rows.specs.Stack.{closed}
 
 unfoldable pub refused : State → ℕ → State
-refused s e = record { row = s .row; end = s .row; depth = s .depth; left = s .left; keyed = s .keyed; names = s .names; size = s .size; error = e }
+refused s e = record {
+  row = s .row;
+  end = s .row;
+  depth = s .depth;
+  left = s .left;
+  keyed = s .keyed;
+  names = s .names;
+  size = s .size;
+  error = e;
+}
 
 -- after a value of n bytes
 unfoldable pub valued : List ℕ → State → ℕ → ℕ → State
@@ -18,7 +27,16 @@ valued st s names n =
 
 -- after a key of n bytes
 unfoldable pub keyedBy : State → ℕ → ℕ → State
-keyedBy s names n = record { row = s .row + 1; end = s .end; depth = s .depth; left = s .left; keyed = 1; names = names; size = s .size + n; error = 0 }
+keyedBy s names n = record {
+  row = s .row + 1;
+  end = s .end;
+  depth = s .depth;
+  left = s .left;
+  keyed = 1;
+  names = names;
+  size = s .size + n;
+  error = 0;
+}
 
 -- after a name of n bytes
 unfoldable pub namedBy : List ℕ → State → ℕ → ℕ → ℕ → State
@@ -26,4 +44,13 @@ namedBy st s kind names n = pick (eqb kind Kind.key) (keyedBy s names n) (valued
 
 -- after the header, of n bytes, of a container
 unfoldable pub openedBy : State → ℕ → ℕ → State
-openedBy s fields n = record { row = s .row + 1; end = s .end; depth = s .depth + 1; left = fields; keyed = 0; names = s .names; size = s .size + n; error = 0 }
+openedBy s fields n = record {
+  row = s .row + 1;
+  end = s .end;
+  depth = s .depth + 1;
+  left = fields;
+  keyed = 0;
+  names = s .names;
+  size = s .size + n;
+  error = 0;
+}

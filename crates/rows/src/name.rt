@@ -37,7 +37,8 @@ use wire::header::code_of;
 use wire::header::header_len;
 use wire::rules::key_after_key;
 
-// For each row that is a name its reference, and then guesses: the entry of a name that begins at a place in the text, if it is still there.
+// For each row that is a name its reference, and then guesses: the entry of a name that begins at a place in the text,
+// if it is still there.
 pub struct Plan;
 
 impl Plan {
@@ -68,7 +69,8 @@ fn is_entry(
     start: usize,
     number: u64,
 ) -> bool
-    requires { ⌜ (length (now entries) ≡ max-entries) × (names ≤ max-entries) × (Kind.symbol ≤ kind) × (kind ≤ Kind.key) × (start ≤ max-bytes) × (number ≤ max-bytes) ⌝ }
+    requires { ⌜ (length (now entries) ≡ max-entries) × (names ≤ max-entries) × (Kind.symbol ≤ kind) × (kind ≤ Kind.key)
+        × (start ≤ max-bytes) × (number ≤ max-bytes) ⌝ }
     ensures { λ r. ⌜ (r ≡ true → Placed (now (entries .entry)) names guess kind start number) ⌝ }
 {
     let i = guess as usize;
@@ -108,8 +110,10 @@ fn fresh(
     s: State,
     row: Row,
 ) -> State
-    requires { ⌜ ((text : List ℕ) × Ready text (now stack) s) × (length (now plan) ≡ plan-size) × (s .names < max-entries) × (Kind.symbol ≤ row .kind) × (row .kind ≤ Kind.key) × (row .number ≤ max-bytes) ⌝ }
-    ensures state { λ r. ⌜ r ≡ namedBy (now (stack .entry)) s (row .kind) (s .names + 1) (length (header (row .kind - Kind.bytes) (row .number)) + row .number) ⌝ }
+    requires { ⌜ ((text : List ℕ) × Ready text (now stack) s) × (length (now plan) ≡ plan-size)
+        × (s .names < max-entries) × (Kind.symbol ≤ row .kind) × (row .kind ≤ Kind.key) × (row .number ≤ max-bytes) ⌝ }
+    ensures state { λ r. ⌜ r ≡ namedBy (now (stack .entry)) s (row .kind) (s .names + 1)
+        (length (header (row .kind - Kind.bytes) (row .number)) + row .number) ⌝ }
     ensures planned { λ _. ⌜ now (plan .exit) ≡ set (set (now (plan .entry)) (guessAt (row .start)) (s .names)) (s .row) no-index ⌝ }
 {
     let names = s.names;
@@ -132,8 +136,10 @@ fn looked_up(
     s: State,
     row: Row,
 ) -> State
-    requires { ⌜ Ready (now text) (now stack) s × Naming (now text) s row × Chained (now text) (now text) (now entries) (now links) (s .names) × (length (now plan) ≡ plan-size) ⌝ }
-    ensures { λ r. ⌜ ((xs : List Row) → After (now (text .entry)) (now (entries .entry)) (now (links .entry)) (now (stack .entry)) (now (plan .entry)) xs s
+    requires { ⌜ Ready (now text) (now stack) s × Naming (now text) s row
+        × Chained (now text) (now text) (now entries) (now links) (s .names) × (length (now plan) ≡ plan-size) ⌝ }
+    ensures { λ r. ⌜ ((xs : List Row) → After (now (text .entry)) (now (entries .entry)) (now (links .entry))
+        (now (stack .entry)) (now (plan .entry)) xs s
         → Next (now (text .entry)) (now (entries .exit)) (now (links .exit)) (now (stack .entry)) (now (plan .exit)) xs row s r) ⌝ }
 {
     let part = content(text, row);
@@ -161,8 +167,10 @@ pub fn name_row(
     s: State,
     row: Row,
 ) -> State
-    requires { ⌜ Ready (now text) (now stack) s × (Kind.symbol ≤ row .kind) × Chained (now text) (now text) (now entries) (now links) (s .names) × (length (now plan) ≡ plan-size) ⌝ }
-    ensures { λ r. ⌜ ((xs : List Row) → After (now (text .entry)) (now (entries .entry)) (now (links .entry)) (now (stack .entry)) (now (plan .entry)) xs s
+    requires { ⌜ Ready (now text) (now stack) s × (Kind.symbol ≤ row .kind)
+        × Chained (now text) (now text) (now entries) (now links) (s .names) × (length (now plan) ≡ plan-size) ⌝ }
+    ensures { λ r. ⌜ ((xs : List Row) → After (now (text .entry)) (now (entries .entry)) (now (links .entry))
+        (now (stack .entry)) (now (plan .entry)) xs s
         → Next (now (text .entry)) (now (entries .exit)) (now (links .exit)) (now (stack .entry)) (now (plan .exit)) xs row s r) ⌝ }
 {
     if is_bad(text.len(), row) {

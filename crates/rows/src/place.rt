@@ -34,7 +34,8 @@ fn close(stack: &[u64; Bundle::MAX_DEPTH], depth: usize, left: u64) -> Level
 
 // After a value of n bytes.
 pub fn value(stack: &[u64; Bundle::MAX_DEPTH], s: State, names: usize, n: usize) -> State
-    requires { ⌜ (length (now stack) ≡ max-depth) × (s .depth ≤ max-depth) × (2 ≤ bottom (now stack) (s .depth) (s .left)) × (s .row + 1 < 2 ^ 64) × (s .size + n < 2 ^ 64) ⌝ }
+    requires { ⌜ (length (now stack) ≡ max-depth) × (s .depth ≤ max-depth)
+        × (2 ≤ bottom (now stack) (s .depth) (s .left)) × (s .row + 1 < 2 ^ 64) × (s .size + n < 2 ^ 64) ⌝ }
     ensures { λ r. ⌜ r ≡ valued (now (stack .entry)) s names n ⌝ }
 {
     let to = close(stack, s.depth, s.left);
@@ -52,7 +53,8 @@ pub fn value(stack: &[u64; Bundle::MAX_DEPTH], s: State, names: usize, n: usize)
 
 // After a name of n bytes: a key is no value yet.
 pub fn named(stack: &[u64; Bundle::MAX_DEPTH], s: State, kind: u8, names: usize, n: usize) -> State
-    requires { ⌜ (length (now stack) ≡ max-depth) × (s .depth ≤ max-depth) × (2 ≤ bottom (now stack) (s .depth) (s .left)) × (s .row + 1 < 2 ^ 64) × (s .size + n < 2 ^ 64) ⌝ }
+    requires { ⌜ (length (now stack) ≡ max-depth) × (s .depth ≤ max-depth)
+        × (2 ≤ bottom (now stack) (s .depth) (s .left)) × (s .row + 1 < 2 ^ 64) × (s .size + n < 2 ^ 64) ⌝ }
     ensures { λ r. ⌜ r ≡ namedBy (now (stack .entry)) s kind names n ⌝ }
 {
     if kind == Row::KEY {

@@ -34,7 +34,9 @@ use wire::rules::bad_text;
 // Bytes or a string.
 fn content_row(text: &[u8], stack: &[u64; Bundle::MAX_DEPTH], s: State, row: Row) -> State
     requires { ⌜ Ready (now text) (now stack) s × (row .kind < Kind.symbol) × (hasContent (row .kind) ≡ true) ⌝ }
-    ensures { λ r. ⌜ ((es links plan : List ℕ) (xs : List Row) → After (now (text .entry)) es links (now (stack .entry)) plan xs s → Next (now (text .entry)) es links (now (stack .entry)) plan xs row s r) ⌝ }
+    ensures { λ r. ⌜ ((es links plan : List ℕ) (xs : List Row)
+        → After (now (text .entry)) es links (now (stack .entry)) plan xs s
+        → Next (now (text .entry)) es links (now (stack .entry)) plan xs row s r) ⌝ }
 {
     let number = row.number;
     if outside(text.len(), row.start, number) {
@@ -86,8 +88,10 @@ pub fn step(
     s: State,
     row: Row,
 ) -> State
-    requires { ⌜ Ready (now text) (now stack) s × Chained (now text) (now text) (now entries) (now links) (s .names) × (length (now plan) ≡ plan-size) ⌝ }
-    ensures { λ r. ⌜ ((xs : List Row) → After (now (text .entry)) (now (entries .entry)) (now (links .entry)) (now (stack .entry)) (now (plan .entry)) xs s
+    requires { ⌜ Ready (now text) (now stack) s × Chained (now text) (now text) (now entries) (now links) (s .names)
+        × (length (now plan) ≡ plan-size) ⌝ }
+    ensures { λ r. ⌜ ((xs : List Row) → After (now (text .entry)) (now (entries .entry)) (now (links .entry))
+        (now (stack .entry)) (now (plan .entry)) xs s
         → Next (now (text .entry)) (now (entries .exit)) (now (links .exit)) (now (stack .exit)) (now (plan .exit)) xs row s r) ⌝ }
 {
     let kind = row.kind;

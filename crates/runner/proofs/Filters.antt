@@ -73,7 +73,8 @@ module _ (p : Program) (s : Stream) (input output : List ℕ) (h : Ready s (leng
 
 -- ---- the buffers of a run
 
-pub long-enough : (p : Program) (input output : List ℕ) → max-envelope ≤ length input → max-text ≤ length output → max-envelope ≤ length output
+pub long-enough : (p : Program) (input output : List ℕ) → max-envelope ≤ length input → max-text ≤ length output
+    → max-envelope ≤ length output
     → Buffers (filterOf p) input output
 unfolding filterOf
 long-enough Listing input output i o e = record { takes-envelope = i; takes-output = o }

@@ -22,7 +22,8 @@ module _ (p : Filter) (inside : Takes p) (s r : Stream) (run : Runs p s r) where
   made = processed p (tally s []) (last .came)
 
   -- what was made so far, and what is made of the unused bytes
-  holds : made ≡ processed p (tally (last .stream) (last .sent ++ waiting (last .stream) (last .output))) (unread (last .stream .window) (last .input) ++ [])
+  holds : made ≡ processed p (tally (last .stream) (last .sent ++ waiting (last .stream) (last .output)))
+      (unread (last .stream .window) (last .input) ++ [])
   holds =
       let first = holds-first p s (run .input) (run .output) in
       ap (processed p (tally s [])) (sym (append-nil (last .came))) ∙ turned-holds p inside (tally s []) (run .turned) first [] (λ _. refl)

@@ -32,7 +32,8 @@ module _ (p : Filter) (inside : Takes p) where
       order 1 used
       (λ u.
       let some = eqb-no {a = used} {b = 0} (λ z. absurd (omega (arith, u, z))) in
-      pick-no _ _ some ∙ enough n m (added p t (opening (b ∷ bs))) rest (omega (arith, shorter, u)) (omega (arith, shorter, u)) ∙ sym (pick-no _ _ some))
+      pick-no _ _ some ∙ enough n m (added p t (opening (b ∷ bs))) rest (omega (arith, shorter, u))
+      (omega (arith, shorter, u)) ∙ sym (pick-no _ _ some))
       (λ u. let none = eqb-yes {a = used} {b = 0} (omega (arith, u)) in pick-yes _ _ none ∙ sym (pick-yes _ _ none))
 
   -- The next envelope, and what comes behind it.

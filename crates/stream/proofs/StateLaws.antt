@@ -36,4 +36,8 @@ module _ (s f : Stream) (h : Flushes s f) where
   pub unpulled : (bs : List ℕ) → Within (s .window) (length bs) → Refills s bs f bs
   unpulled bs w =
       let same = ap (λ (x : Stream). x .window) (h .0) in
-      record { pulls = stayed (s .window) (f .window) bs w same; state = h .0 ∙ ap (λ (x : Window). emptied s x (f .failed) (f .failed)) (sym same) }
+      record {
+        pulls = stayed (s .window) (f .window) bs w same;
+        state = h .0
+            ∙ ap (λ (x : Window). emptied s x (f .failed) (f .failed)) (sym same);
+      }

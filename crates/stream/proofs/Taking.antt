@@ -25,7 +25,8 @@ use Rattle.stream.proofs.StateLaws.{goes-on, stops}
 
 -- ---- what is ready stays so
 
-pub emptied-ready : (s r : Stream) {input output : ℕ} (output′ : ℕ) (f d : Bool) → Ready s input output → r ≡ emptied s (s .window) f d → Ready r input output′
+pub emptied-ready : (s r : Stream) {input output : ℕ} (output′ : ℕ) (f d : Bool) → Ready s input output
+    → r ≡ emptied s (s .window) f d → Ready r input output′
 emptied-ready s r {input} output′ f d h e = subst (λ (x : Stream). Ready x input output′) (sym e) (h .0, omega arith)
 
 moved-within : (w : Window) (used n : ℕ) → w .start + used ≤ w .end → w .end ≤ n → Within (movedOn w used) n
@@ -105,7 +106,8 @@ module _ {p : Filter} {s : Stream} {step : Step} {k : ℕ} {input output ys : Li
           waits = λ _. ap (λ (x : Stream). waiting x new) e ∙ out-waits ∙ ap (λ (n : ℕ). waiting s output ++ p .output n (opening bs)) q;
         }
 
-pub flushed : (p : Filter) (s r : Stream) (bs output : List ℕ) → Flushes s r → length output - s .filled < p .most → Takes p s bs output r output
+pub flushed : (p : Filter) (s r : Stream) (bs output : List ℕ) → Flushes s r → length output - s .filled < p .most
+    → Takes p s bs output r output
 flushed p s r bs output f l =
     record { flushed = λ _. (f, refl); taken = λ m. absurd (omega (arith, l, m)); waits = λ m. absurd (omega (arith, l, m)) }
 
@@ -120,12 +122,14 @@ pub record Going (p : Filter) (s₀ : Stream) (input₀ output₀ : List ℕ) (s
   pub came : List ℕ
   pub sent : List ℕ
   pub fewer : left ≤ 2 ^ 64 - 1
-  pub turned : Turned p ((2 ^ 64 - 1) - left) (opened s₀ input₀ output₀) (record { stream = s; input = input; output = output; came = came; sent = sent })
+  pub turned : Turned p ((2 ^ 64 - 1) - left) (opened s₀ input₀ output₀)
+      (record { stream = s; input = input; output = output; came = came; sent = sent })
 
 pub not-yet : (p : Filter) (s : Stream) (input output : List ℕ) → Going p s input output s input output (2 ^ 64 - 1)
 not-yet p s input output = record { came = []; sent = []; fewer = omega arith; turned = no-turn }
 
-module _ {p : Filter} {s₀ s : Stream} {input₀ output₀ input output : List ℕ} {left : ℕ} (g : Going p s₀ input₀ output₀ s input output left) where
+module _ {p : Filter} {s₀ s : Stream} {input₀ output₀ input output : List ℕ} {left : ℕ}
+    (g : Going p s₀ input₀ output₀ s input output left) where
   pub goes-on-with : (r : Stream) (input′ output′ : List ℕ) → s .done ≡ false → 0 < left → Turns p s input output r input′ output′
       → Going p s₀ input₀ output₀ r input′ output′ (left - 1)
   goes-on-with r input′ output′ going some turns =
@@ -136,7 +140,12 @@ module _ {p : Filter} {s₀ s : Stream} {input₀ output₀ input output : List 
       let y : Snapshot = record { stream = r; input = input′; output = output′; came = came; sent = sent } in
       let turn : Turned p (suc ((2 ^ 64 - 1) - left)) (opened s₀ input₀ output₀) y =
       one-more (g .turned) (record { going = going; turns = turns; reads = refl; writes = refl }) in
-      record { came = came; sent = sent; fewer = omega (arith, g .fewer); turned = subst (λ (k : ℕ). Turned p k (opened s₀ input₀ output₀) y) e turn }
+      record {
+        came = came;
+        sent = sent;
+        fewer = omega (arith, g .fewer);
+        turned = subst (λ (k : ℕ). Turned p k (opened s₀ input₀ output₀) y) e turn;
+      }
 
   pub ran : (before r : Stream) → s₀ ≡ begun before → Buffers p input₀ output₀ → Ends ((2 ^ 64 - 1) - left) s r → Runs p before r
   ran before r e sized ends =

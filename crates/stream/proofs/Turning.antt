@@ -34,7 +34,8 @@ madeBy x = tally (x .stream) (x .sent ++ waiting (x .stream) (x .output))
 
 -- Whatever may still come: all that was read, and that, is processed to the same as that behind the unused bytes from here on.
 abbrev pub Holds : Filter → Tally → Snapshot → Type 0
-Holds p t x = (more : List ℕ) → (x .stream .window .ended ≡ true → more ≡ []) → processed p t (x .came ++ more) ≡ processed p (madeBy x) (rest x ++ more)
+Holds p t x = (more : List ℕ) → (x .stream .window .ended ≡ true → more ≡ [])
+    → processed p t (x .came ++ more) ≡ processed p (madeBy x) (rest x ++ more)
 
 pub holds-first : (p : Filter) (s : Stream) (input output : List ℕ) → Holds p (tally s []) (beginning s input output)
 holds-first p s input output more e = refl
@@ -44,7 +45,8 @@ module _ (p : Filter) (t : Tally) (x y : Snapshot) (ih : Holds p t x) where
   w = x .stream .window
 
   -- Nothing waits any more: what waited was handed on.
-  handed-on : (v : Window) (f d : Bool) → y .stream ≡ emptied (x .stream) v f d → y .sent ≡ x .sent ++ waiting (x .stream) (x .output) → madeBy y ≡ madeBy x
+  handed-on : (v : Window) (f d : Bool) → y .stream ≡ emptied (x .stream) v f d
+      → y .sent ≡ x .sent ++ waiting (x .stream) (x .output) → madeBy y ≡ madeBy x
   handed-on v f d e q =
       ap (λ (s : Stream). tally s (y .sent ++ waiting s (y .output))) e ∙ ap (tally (x .stream)) (append-nil (y .sent) ∙ q)
 
@@ -74,7 +76,8 @@ module _ (p : Filter) (t : Tally) (x y : Snapshot) (ih : Holds p t x) where
   module _ (inside : Takes p) (some : 0 < length (rest x))
       (settled : (more : List ℕ) → (w .ended ≡ true → more ≡ []) → opening (rest x ++ more) ≡ opening (rest x))
       (e : y .stream ≡ advanced (x .stream) (p .step (numbered (x .stream .count)) (opening (rest x))))
-      (waits : waiting (y .stream) (y .output) ≡ waiting (x .stream) (x .output) ++ p .output (numbered (x .stream .count)) (opening (rest x)))
+      (waits : waiting (y .stream) (y .output) ≡ waiting (x .stream) (x .output) ++ p .output
+      (numbered (x .stream .count)) (opening (rest x)))
       (i : y .input ≡ x .input) (c : y .came ≡ x .came ++ []) (q : y .sent ≡ x .sent ++ []) where
     abbrev used : ℕ
     used = processing.usedOf p (madeBy x) (rest x)
@@ -117,7 +120,8 @@ module _ (p : Filter) (t : Tally) (x y : Snapshot) (ih : Holds p t x) where
       followed u =
           let next = processing.goes-on p inside (madeBy x) (rest x ++ more) more-bytes (omega (arith, same-used, u)) in
           let k = numbered (x .stream .count) in
-          let alike = ap (λ (a : Answer (List ℕ)). processed p (added p (madeBy x) a) (drop (p .step k a .used) (rest x ++ more))) same-opening in
+          let alike = ap (λ (a : Answer (List ℕ)). processed p (added p (madeBy x) a)
+          (drop (p .step k a .used) (rest x ++ more))) same-opening in
           let moved = state.goes-on w {used = used} (λ n. absurd (omega (arith, n, u))) in
           let behind : rest y ≡ drop used (rest x) = rw (window, moved, i) (part-rest (w .start) (w .end) used (x .input)) in
           let left = drop-append-le used (rest x) more (inside k (rest x)) ∙ ap (λ (l : List ℕ). l ++ more) (sym behind) in
@@ -176,7 +180,8 @@ module _ (p : Filter) (x y : Snapshot) (h : Turn p x y) where
 
   -- which of four cases it is
   by-action {ℓ} : {X : Type ℓ} → (length bs ≡ 0 → Doing End → X)
-      → (0 < length bs → ((more : List ℕ) → (x .stream .window .ended ≡ true → more ≡ []) → opening (bs ++ more) ≡ opening bs) → Doing Take → X)
+      → (0 < length bs → ((more : List ℕ) → (x .stream .window .ended ≡ true → more ≡ [])
+      → opening (bs ++ more) ≡ opening bs) → Doing Take → X)
       → (x .stream .window .ended ≡ false → Doing Read → X) → X
   by-action end take read =
       cases (x .stream .window .ended)

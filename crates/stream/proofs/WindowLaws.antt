@@ -42,7 +42,8 @@ module _ (start i : ℕ) (bs : List ℕ) (l : start + i < length bs) where
       ∙ ap (λ (t : List ℕ). set (front ++ t) i a) (drop-cons bs i 0 (omega arith))
       ∙ set-at front (getD bs i 0) (drop (suc i) bs) a i front-length
       ∙ sym (append-assoc front (a ∷ []) (drop (suc i) bs))
-      ∙ ap (λ (t : List ℕ). t ++ drop (suc i) bs) (ap (λ (x : ℕ). front ++ (x ∷ [])) (sym (getD-drop start bs i 0)) ∙ sym (take-suc (drop start bs) i 0 (omega (arith, length-drop start bs))))
+      ∙ ap (λ (t : List ℕ). t ++ drop (suc i) bs) (ap (λ (x : ℕ). front ++ (x ∷ [])) (sym (getD-drop start bs i 0))
+      ∙ sym (take-suc (drop start bs) i 0 (omega (arith, length-drop start bs))))
       ∙ ap (λ (k : ℕ). moved start k bs) (sym (add-one i))
 
 module _ (start n : ℕ) (bs : List ℕ) (l : start + n ≤ length bs) where
@@ -50,13 +51,15 @@ module _ (start n : ℕ) (bs : List ℕ) (l : start + n ≤ length bs) where
   moved-all = take-at (take n (drop start bs)) (drop n bs) n (length-take-le n (drop start bs) (omega (arith, length-drop start bs)))
 
 -- Something was read into the tail from k on, and the bytes before it stay.
-pub pulled : (w r : Window) (old l ys : List ℕ) (k : ℕ) → k ≡ unused w → take k l ≡ unread w old → r .start ≡ 0 → k ≤ r .end → r .end ≤ length l
+pub pulled : (w r : Window) (old l ys : List ℕ) (k : ℕ) → k ≡ unused w → take k l ≡ unread w old → r .start ≡ 0
+    → k ≤ r .end → r .end ≤ length l
     → length (putMid k (length l - k) l ys) ≡ length l → (r .ended ≡ true → r .end ≡ k) → Pulls w old r (putMid k (length l - k) l ys)
 pulled w r old l ys k ek e z m m′ s n =
     let new = putMid k (length l - k) l ys in
     record {
       within = (omega (arith, z), omega (arith, s));
-      kept = rw (z, sym ek) (rw (sym ek) at (take-take k (r .end - 0) new (omega arith) ∙ take-put k (length l - k) l ys (omega arith) ∙ e));
+      kept = rw (z, sym ek) (rw (sym ek) at (take-take k (r .end - 0) new (omega arith)
+          ∙ take-put k (length l - k) l ys (omega arith) ∙ e));
       nothing = λ h. omega (arith, n h, z, ek);
     }
 
@@ -77,7 +80,8 @@ drop-take (suc k) zero l = let e : 0 - suc k ≡ 0 = omega arith in rw e
 drop-take (suc k) (suc n) [] = sym (take-nil (suc n - suc k))
 drop-take (suc k) (suc n) (a ∷ l) = let e : n - k ≡ suc n - suc k = omega arith in drop-take k n l ∙ ap (λ (m : ℕ). take m (drop k l)) e
 
-pub part-rest : (start end used : ℕ) (bs : List ℕ) → take (end - (start + used)) (drop (start + used) bs) ≡ drop used (take (end - start) (drop start bs))
+pub part-rest : (start end used : ℕ) (bs : List ℕ)
+    → take (end - (start + used)) (drop (start + used) bs) ≡ drop used (take (end - start) (drop start bs))
 part-rest start end used bs =
     let e : end - start - used ≡ end - (start + used) = omega arith in
     sym

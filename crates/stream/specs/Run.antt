@@ -31,7 +31,8 @@ pub record Makes (p : Filter) (k : ℕ) (bs old : List ℕ) (r : Step) (new : Li
 
 -- ---- a turn
 
--- The buffers are long enough: the input's for the longest envelope, so that a read has space as long as one is cut; the output's for what is made of any.
+-- The buffers are long enough: the input's for the longest envelope, so that a read has space as long as one is cut;
+-- the output's for what is made of any.
 pub record Buffers (p : Filter) (input output : List ℕ) : Type 0 where
   pub takes-envelope : max-envelope ≤ length input
   pub takes-output : p .most ≤ length output

@@ -82,7 +82,15 @@ advanced s step =
 -- The run has ended, whatever waits.
 abbrev pub broken : Stream → Stream
 broken s =
-    record { window = s .window; filled = s .filled; count = s .count; refusal = s .refusal; stopped = s .stopped; failed = true; done = true }
+    record {
+      window = s .window;
+      filled = s .filled;
+      count = s .count;
+      refusal = s .refusal;
+      stopped = s .stopped;
+      failed = true;
+      done = true;
+    }
 
 -- ---- after writing and reading
 

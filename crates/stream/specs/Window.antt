@@ -27,7 +27,8 @@ unused w = w .end - w .start
 abbrev pub unread : Window → List ℕ → List ℕ
 unread w bs = take (unused w) (drop (w .start) bs)
 
--- Of a window over a buffer that held `old`: it becomes `r`, over `new`. What was not used comes first; where the input has ended, nothing more came.
+-- Of a window over a buffer that held `old`: it becomes `r`, over `new`. What was not used comes first; where the
+-- input has ended, nothing more came.
 pub record Pulls (w : Window) (old : List ℕ) (r : Window) (new : List ℕ) : Type 0 where
   pub within : Within r (length new)
   pub kept : take (unused w) (unread r new) ≡ unread w old

@@ -5,7 +5,8 @@ ghost use lib.ListN.{length};
 use libc::EINTR;
 use libc::STDOUT_FILENO;
 
-// Writes all of the bytes and answers true. An error is said on standard error, and false answered; a write that a signal interrupts is tried again.
+// Writes all of the bytes and answers true. An error is said on standard error, and false answered; a write that a
+// signal interrupts is tried again.
 pub fn put(bytes: &[u8], what: &[u8]) -> bool
     ensures { λ r. ⌜ (length (now (bytes .entry)) ≡ 0 → r ≡ true) ⌝ }
 {

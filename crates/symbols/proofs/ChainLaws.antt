@@ -62,17 +62,20 @@ module _ (a b : List ℕ) (x : Item) where
   from-some k (e ∷ es) (suc i) l h f =
       pick-no _ _ (f 0 (omega arith)) ∙ from-some (k + 1) es i (omega arith) h (λ j g. f (suc j) (omega arith)) ∙ ap some (omega arith)
 
-  from-none : (k : ℕ) (es : List ℕ) → ((j : ℕ) → j < length es → sameName x (nameIn a b (getD es j 0)) ≡ false) → indexFrom k x (namesIn a b es) ≡ none
+  from-none : (k : ℕ) (es : List ℕ) → ((j : ℕ) → j < length es → sameName x (nameIn a b (getD es j 0)) ≡ false)
+      → indexFrom k x (namesIn a b es) ≡ none
   unfolding namesIn indexFrom
   from-none k [] f = refl
   from-none k (e ∷ es) f = pick-no _ _ (f 0 (omega arith)) ∙ from-none (k + 1) es (λ j g. f (suc j) (omega arith))
 
-  none-all : (k : ℕ) (es : List ℕ) → indexFrom k x (namesIn a b es) ≡ none → (j : ℕ) → j < length es → sameName x (nameIn a b (getD es j 0)) ≡ false
+  none-all : (k : ℕ) (es : List ℕ) → indexFrom k x (namesIn a b es) ≡ none → (j : ℕ) → j < length es
+      → sameName x (nameIn a b (getD es j 0)) ≡ false
   unfolding namesIn indexFrom
   none-all k [] h j l = absurd (omega arith)
   none-all k (e ∷ es) h zero l = cases (sameName x (nameIn a b e)) (λ t. none-some (sym h ∙ pick-yes _ _ t)) (λ f. f)
   none-all k (e ∷ es) h (suc j) l =
-      cases (sameName x (nameIn a b e)) (λ t. none-some (sym h ∙ pick-yes _ _ t)) (λ f. none-all (k + 1) es (sym (pick-no _ _ f) ∙ h) j (omega arith))
+      cases (sameName x (nameIn a b e)) (λ t. none-some (sym h ∙ pick-yes _ _ t))
+      (λ f. none-all (k + 1) es (sym (pick-no _ _ f) ∙ h) j (omega arith))
 
 module _ (a b es : List ℕ) (count : ℕ) (x : Item) (le : count ≤ length es) where
   long : length (take count es) ≡ count
@@ -81,7 +84,8 @@ module _ (a b es : List ℕ) (count : ℕ) (x : Item) (le : count ≤ length es)
   kept : (j : ℕ) → j < count → getD (take count es) j 0 ≡ getD es j 0
   kept j l = getD-take count es j 0 l
 
-  pub index-some : (i : ℕ) → i < count → sameName x (nameIn a b (getD es i 0)) ≡ true → ((j : ℕ) → j < i → sameName x (nameIn a b (getD es j 0)) ≡ false)
+  pub index-some : (i : ℕ) → i < count → sameName x (nameIn a b (getD es i 0)) ≡ true
+      → ((j : ℕ) → j < i → sameName x (nameIn a b (getD es j 0)) ≡ false)
       → index x (namesIn a b (take count es)) ≡ some i
   unfolding index
   index-some i l h f =
@@ -110,7 +114,8 @@ pub record Along (a b es : List ℕ) (count kind key : ℕ) (content : List ℕ)
   pub none-from : (j : ℕ) → j < count → v ≤ j → sameName (name kind content) (nameIn a b (getD es j 0)) ≡ false
   pub here : 0 < v → bucket (getD es (v - 1) 0) ≡ bucket key
 
-module _ {a b es links : List ℕ} {count kind key : ℕ} (content : List ℕ) (c : Chained a b es links count) (ek : key ≡ keyOf kind content) (lo : Kind.symbol ≤ kind)
+module _ {a b es links : List ℕ} {count kind key : ℕ} (content : List ℕ) (c : Chained a b es links count)
+    (ek : key ≡ keyOf kind content) (lo : Kind.symbol ≤ kind)
     (hi : kind ≤ Kind.key) where
   abbrev x : Item
   x = name kind content
@@ -127,7 +132,8 @@ module _ {a b es links : List ℕ} {count kind key : ℕ} (content : List ℕ) (
       record {
         within = c .head-le (bucket key) (omega arith);
         none-from = λ j l le. cases (sameName x (nameIn a b (getD es j 0)))
-            (λ t. let e = same-bucket j l t in let p : j < getD links (bucket key) 0 = rw e at (c .head-past j l) in absurd (omega arith)) (λ f. f);
+            (λ t. let e = same-bucket j l t in let p : j < getD links (bucket key) 0 = rw e at (c .head-past j l) in
+            absurd (omega arith)) (λ f. f);
         here = λ p. c .head-in (bucket key) (getD links (bucket key) 0 - 1) (omega arith) (omega arith);
       }
 
@@ -135,7 +141,8 @@ module _ {a b es links : List ℕ} {count kind key : ℕ} (content : List ℕ) (
     lt : v - 1 < count
     lt = omega (arith, w .within)
 
-    pub along-next : sameName x (nameIn a b (getD es (v - 1) 0)) ≡ false → Along a b es count kind key content (getD links (buckets + (v - 1)) 0)
+    pub along-next : sameName x (nameIn a b (getD es (v - 1) 0)) ≡ false
+        → Along a b es count kind key content (getD links (buckets + (v - 1)) 0)
     along-next h =
         record {
           within = omega (arith, c .next-le (v - 1) lt, w .within);
@@ -149,7 +156,8 @@ module _ {a b es links : List ℕ} {count kind key : ℕ} (content : List ℕ) (
         past j l le q t =
             order v j (λ (g : v ≤ j). w .none-from j l g)
             (λ (g : j < v).
-            let p : j < getD links (buckets + (v - 1)) 0 = c .next-past (v - 1) j lt (omega arith) (same-bucket j l t ∙ sym (w .here pos)) in
+            let p : j < getD links (buckets + (v - 1)) 0 = c .next-past (v - 1) j lt (omega arith) (same-bucket j l t
+            ∙ sym (w .here pos)) in
             absurd (omega arith))
 
     pub along-less : getD links (buckets + (v - 1)) 0 < v
@@ -209,10 +217,12 @@ module _ {a b es links : List ℕ} {count e : ℕ} (c : Chained a b es links cou
 
   -- the heads
   head-new : getD links₂ (bucket e) 0 ≡ count + 1
-  head-new = getD-set-same links₁ (bucket e) (count + 1) 0 (omega (arith, c .size, length-set links (buckets + count) (getD links (bucket e) 0)))
+  head-new = getD-set-same links₁ (bucket e)
+      (count + 1) 0 (omega (arith, c .size, length-set links (buckets + count) (getD links (bucket e) 0)))
 
   head-old : (k : ℕ) → k < buckets → k ≢ bucket e → getD links₂ k 0 ≡ getD links k 0
-  head-old k l n = getD-set-other links₁ (bucket e) k (count + 1) 0 n ∙ getD-set-other links (buckets + count) k (getD links (bucket e) 0) 0 (λ q. omega arith)
+  head-old k l n = getD-set-other links₁ (bucket e) k (count + 1) 0 n
+      ∙ getD-set-other links (buckets + count) k (getD links (bucket e) 0) 0 (λ q. omega arith)
 
   head-past-old : (j : ℕ) → j < count → j < getD links₂ (bucket (getD es j 0)) 0
   head-past-old j m =
@@ -232,7 +242,8 @@ module _ {a b es links : List ℕ} {count e : ℕ} (c : Chained a b es links cou
       ∙ getD-set-other links (buckets + count) (buckets + i) (getD links (bucket e) 0) 0 (λ q. omega arith)
 
   -- what `enter` does
-  pub chain-more : Chained a b (set es count e) (set (set links (buckets + count) (getD links (bucket e) 0)) (bucket e) (count + 1)) (count + 1)
+  pub chain-more : Chained a b (set es count e) (set (set links (buckets + count) (getD links (bucket e) 0)) (bucket e)
+      (count + 1)) (count + 1)
   chain-more =
       record {
         table = table-more;
@@ -282,6 +293,7 @@ module _ {a b es links : List ℕ} {count e : ℕ} (c : Chained a b es links cou
       }
 
 -- an index fits the table
-pub index-small : {a b es links : List ℕ} {count i : ℕ} (x : Item) → Chained a b es links count → index x (namesIn a b (take count es)) ≡ some i → i < max-entries
+pub index-small : {a b es links : List ℕ} {count i : ℕ} (x : Item) → Chained a b es links count
+    → index x (namesIn a b (take count es)) ≡ some i → i < max-entries
 index-small {a} {b} {es} {links} {count} {i} x ch e =
     omega (arith, at-lt (namesIn a b (take count es)) i (index-at x (namesIn a b (take count es)) e .at), length-names (ch .table), ch .table .few)

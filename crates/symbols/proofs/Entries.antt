@@ -43,12 +43,14 @@ module _ (s es : List ℕ) (names : ℕ) (size : length es ≡ 256) (few : names
   unfolding entriesOf
   entries-more e l =
       let w : names < length es = omega arith in
-      ap (λ (n : ℕ). map (foundIn s) (take n (set es names e))) (add-one names) ∙ ap (map (foundIn s)) (take-suc-set es names e w) ∙ map-append (foundIn s) (take names es) (e ∷ [])
+      ap (λ (n : ℕ). map (foundIn s) (take n (set es names e))) (add-one names)
+      ∙ ap (map (foundIn s)) (take-suc-set es names e w) ∙ map-append (foundIn s) (take names es) (e ∷ [])
 
 -- What a packed entry stands for.
 pub found-packed : (s : List ℕ) {e start side len kind : ℕ} → Packed e start side len kind → foundIn s e ≡ partOf s kind start len
 unfolding foundIn nameIn partIn
 found-packed s {e} {start} {side} {len} {kind} p =
     let c : take len (drop start (sideOf side s s)) ≡ take len (drop start s) = rw side-both in
-    let q : nameIn s s e ≡ partOf s kind start len .item = item-path (p .kind-is) (p .length-is) (rw (p .length-is, p .start-is, p .side-is) c) in
+    let q : nameIn s s e ≡ partOf s kind start len .item = item-path (p .kind-is) (p .length-is)
+    (rw (p .length-is, p .start-is, p .side-is) c) in
     λ j. record { item = q j; start = p .start-is j }

@@ -16,7 +16,8 @@ use Rattle.symbols.proofs.MarkLaws.{mark-lt}
 
 -- ---- keys
 
-module _ {a b : List ℕ} {e kind key : ℕ} (content : List ℕ) (ok : Sound a b e) (ek : key ≡ keyOf kind content) (lo : Kind.symbol ≤ kind) (hi : kind ≤ Kind.key) where
+module _ {a b : List ℕ} {e kind key : ℕ} (content : List ℕ) (ok : Sound a b e) (ek : key ≡ keyOf kind content)
+    (lo : Kind.symbol ≤ kind) (hi : kind ≤ Kind.key) where
   -- another key: another name
   pub other-key : (keyIn e ≡ key → ⊥) → sameName (name kind content) (nameIn a b e) ≡ false
   unfolding sameName nameIn
@@ -62,16 +63,19 @@ packed e start side m len kind is ml si short lo hi =
     record { start-is = omega arith; side-is = omega arith; length-is = omega arith; kind-is = omega arith }
 
 -- with no mark
-pub packed-plain : (start len kind : ℕ) → len ≤ max-bytes → Kind.symbol ≤ kind → kind ≤ Kind.key → Packed (plainEntry kind start len) start 0 len kind
+pub packed-plain : (start len kind : ℕ) → len ≤ max-bytes → Kind.symbol ≤ kind → kind ≤ Kind.key
+    → Packed (plainEntry kind start len) start 0 len kind
 packed-plain start len kind = packed _ start 0 0 len kind (omega arith) (omega arith) (omega arith)
 
 -- with a name's mark
-pub packed-marked : (start side kind key : ℕ) (content : List ℕ) → key ≡ keyOf kind content → side < sides → length content ≤ max-bytes → Kind.symbol ≤ kind → kind ≤ Kind.key
+pub packed-marked : (start side kind key : ℕ) (content : List ℕ) → key ≡ keyOf kind content → side < sides
+    → length content ≤ max-bytes → Kind.symbol ≤ kind → kind ≤ Kind.key
     → Packed (entryOf side start key) start side (length content) kind
 packed-marked start side kind key content ek = packed _ start side (markOf content) (length content) kind (rw ek) (mark-lt content)
 
 -- a name whose bytes stand at start of a side
-module _ (a b : List ℕ) (kind key side start : ℕ) (content : List ℕ) (ek : key ≡ keyOf kind content) (lo : Kind.symbol ≤ kind) (hi : kind ≤ Kind.key)
+module _ (a b : List ℕ) (kind key side start : ℕ) (content : List ℕ) (ek : key ≡ keyOf kind content)
+    (lo : Kind.symbol ≤ kind) (hi : kind ≤ Kind.key)
     (short : length content ≤ max-bytes) (si : side < sides) (inside : start + length content ≤ length (sideOf side a b))
     (is : content ≡ take (length content) (drop start (sideOf side a b))) where
   abbrev e : ℕ

@@ -1,4 +1,5 @@
--- Packed entries. A name's bytes are a part of the first or of the second of two slices. An entry is a number of five fields, from the lowest:
+-- Packed entries. A name's bytes are a part of the first or of the second of two slices. An entry is a number of five
+-- fields, from the lowest:
 -- the kind, counted from that of symbols; the length; the mark; the side; the start. A field's unit is what one of it counts.
 use Prim.Native.Nat.{ℕ, _+_, _-_, _*_, _/_, _%_, _≤_, _<_}
 use mathlib.Core.Path.{_≡_}

@@ -23,6 +23,7 @@ pub record Entered (a b es es′ links′ : List ℕ) (count : ℕ) (x : Item) (
   pub chained : Chained a b es′ links′ (count + 1)
 
 abbrev pub NotedAs : List ℕ → List ℕ → List ℕ → List ℕ → List ℕ → List ℕ → ℕ → Item → ℕ → Noted → Type 0
-NotedAs a b es es′ links links′ count x start (noted.Known i) = (index x (namesIn a b (take count es)) ≡ some i) × (i < max-entries) × (es′ ≡ es) × (links′ ≡ links)
+NotedAs a b es es′ links links′ count x start (noted.Known i) = (index x (namesIn a b (take count es)) ≡ some i)
+    × (i < max-entries) × (es′ ≡ es) × (links′ ≡ links)
 NotedAs a b es es′ links links′ count x start noted.Entered = Entered a b es es′ links′ count x start
 NotedAs a b es es′ links links′ count x start noted.Full = (index x (namesIn a b (take count es)) ≡ none) × (max-entries ≤ count)

@@ -168,7 +168,8 @@ pub fn is_name<'a>(
     key: u64,
     content: &[u8],
 ) -> bool
-    requires { ⌜ Sound (now first) (now second) e × (key ≡ keyOf kind (now content)) × (Kind.symbol ≤ kind) × (kind ≤ Kind.key) × (length (now content) ≤ max-bytes) ⌝ }
+    requires { ⌜ Sound (now first) (now second) e × (key ≡ keyOf kind (now content)) × (Kind.symbol ≤ kind)
+        × (kind ≤ Kind.key) × (length (now content) ≤ max-bytes) ⌝ }
     ensures { λ r. ⌜ r ≡ sameName (name kind (now (content .entry))) (nameIn (now (first .entry)) (now (second .entry)) e) ⌝ }
 {
     if name_key(e) != key {

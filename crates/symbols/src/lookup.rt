@@ -40,8 +40,10 @@ pub fn find<'a>(
     key: u64,
     content: &[u8],
 ) -> Lookup
-    requires { ⌜ Chained (now first) (now second) (now entries) (now links) count × (key ≡ keyOf kind (now content)) × (Kind.symbol ≤ kind) × (kind ≤ Kind.key) × (length (now content) ≤ max-bytes) ⌝ }
-    ensures { λ r. ⌜ r ≡ foundOf (index (name kind (now (content .entry))) (namesIn (now (first .entry)) (now (second .entry)) (take count (now (entries .entry))))) ⌝ }
+    requires { ⌜ Chained (now first) (now second) (now entries) (now links) count × (key ≡ keyOf kind (now content))
+        × (Kind.symbol ≤ kind) × (kind ≤ Kind.key) × (length (now content) ≤ max-bytes) ⌝ }
+    ensures { λ r. ⌜ r ≡ foundOf (index (name kind (now (content .entry)))
+        (namesIn (now (first .entry)) (now (second .entry)) (take count (now (entries .entry))))) ⌝ }
 {
     let head = bucket(key);
     let mut v = links[head];
@@ -96,8 +98,10 @@ pub fn note<'a>(
     start: usize,
     content: &[u8],
 ) -> Noted
-    requires { ⌜ Chained (now first) (now second) (now entries) (now links) count × Part (now first) (now second) kind side start (now content) × (key ≡ keyOf kind (now content)) ⌝ }
-    ensures { λ r. ⌜ NotedAs (now (first .entry)) (now (second .entry)) (now (entries .entry)) (now (entries .exit)) (now (links .entry)) (now (links .exit)) count (name kind (now (content .entry))) start r ⌝ }
+    requires { ⌜ Chained (now first) (now second) (now entries) (now links) count
+        × Part (now first) (now second) kind side start (now content) × (key ≡ keyOf kind (now content)) ⌝ }
+    ensures { λ r. ⌜ NotedAs (now (first .entry)) (now (second .entry)) (now (entries .entry)) (now (entries .exit))
+        (now (links .entry)) (now (links .exit)) count (name kind (now (content .entry))) start r ⌝ }
 {
     match find(first, second, entries, links, count, kind, key, content) {
         Lookup::At(i) => Noted::Known(i),

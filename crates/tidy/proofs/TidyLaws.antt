@@ -23,20 +23,23 @@ use Rattle.stream.specs.declared.state.Step.{Step}
 use Rattle.tidy.specs.Tidied.{Closed, filter, stepOf, tidied}
 
 -- What a result leaves in a buffer was put there.
-stored-puts : (size : ℕ) (a : Answer (List ℕ)) (old : List ℕ) {new : List ℕ} → new ≡ stored old a → Puts (bytesIn a) (stepOf size a .written) old new
+stored-puts : (size : ℕ) (a : Answer (List ℕ)) (old : List ℕ) {new : List ℕ} → new ≡ stored old a
+    → Puts (bytesIn a) (stepOf size a .written) old new
 unfolding stored bytesIn stepOf
 stored-puts size (failed f) old e = (refl, e)
 stored-puts size (good bs) old e = (refl, e)
 
 -- By what closing answers.
 module _ (size : ℕ) (bs old : List ℕ) {new : List ℕ} where
-  pub closed-failed : {f : Failure} {r : Step} → Writes (closing bs (length old)) old (Failed f) new → r ≡ stepOf 0 (failed f) → Closed size bs old r new
+  pub closed-failed : {f : Failure} {r : Step} → Writes (closing bs (length old)) old (Failed f) new
+      → r ≡ stepOf 0 (failed f) → Closed size bs old r new
   unfolding stepOf
   closed-failed h t =
       let f = stored-failed old (closing bs (length old)) (h .buffer) (sym (h .answer)) .0 in
       record { step = rw f t; buffer = h .buffer }
 
-  pub closed-done : {n : ℕ} → Writes (closing bs (length old)) old (Done n) new → Closed size bs old (record { used = size; written = n; outcome = Good }) new
+  pub closed-done : {n : ℕ} → Writes (closing bs (length old)) old (Done n) new
+      → Closed size bs old (record { used = size; written = n; outcome = Good }) new
   unfolding stepOf
   closed-done h =
       let (f, l) = stored-counted old (closing bs (length old)) (h .buffer) (sym (h .answer)) in
@@ -73,11 +76,16 @@ module _ (k : ℕ) (bs old : List ℕ) where
       pub canonical-fits : m ≤ length s′
       canonical-fits = omega (arith, canonical .1, length-take m s′)
 
-      pub closes : max-envelope ≤ length old → {r : Step} {new : List ℕ} → Closed (overhead + n) (take m s′) old r new → Makes filter k bs old r new
+      pub closes : max-envelope ≤ length old → {r : Step} {new : List ℕ} → Closed (overhead + n) (take m s′) old r new
+          → Makes filter k bs old r new
       unfolding tidied then sizeIn
       closes long {r} {new} h′ =
           let (z, l) = opened in
           let f = canonical .0 in
           let enough = closing-enough (take m s′) (length old) long in
           let step : r ≡ stepOf (overhead + n) (closing (take m s′) max-envelope) = rw enough at (h′ .step) in
-          record { step = rw (z, f, l) step; puts = rw (z, f, step) (stored-puts (overhead + n) (closing (take m s′) max-envelope) old (rw enough at (h′ .buffer))) }
+          record {
+            step = rw (z, f, l) step;
+            puts = rw (z, f, step) (stored-puts (overhead + n) (closing (take m s′) max-envelope) old
+                (rw enough at (h′ .buffer)));
+          }

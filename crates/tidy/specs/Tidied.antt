@@ -22,7 +22,11 @@ stepOf size (failed f) = record { used = 0; written = 0; outcome = Failed f }
 stepOf size (good e) = record { used = size; written = length e; outcome = Good }
 
 abbrev pub filter : Filter
-filter = record { output = λ k opened. bytesIn (tidied opened); step = λ k opened. stepOf (sizeIn opened) (tidied opened); most = max-envelope }
+filter = record {
+  output = λ k opened. bytesIn (tidied opened);
+  step = λ k opened. stepOf (sizeIn opened) (tidied opened);
+  most = max-envelope;
+}
 
 -- Of a canonical bundle whose envelope took so many bytes, into a buffer that held `old`: it answers `r` and leaves `new`.
 pub record Closed (size : ℕ) (bs old : List ℕ) (r : Step) (new : List ℕ) : Type 0 where

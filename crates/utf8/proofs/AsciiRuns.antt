@@ -13,7 +13,8 @@ use Rattle.format.proofs.Tests.{clash, leb-yes, leb-no}
 use Rattle.utf8.specs.Local.{due, passes, passesAt, Passing, Ascii}
 use Rattle.utf8.proofs.Ranges.{one-more, joined}
 
-pub ascii-more : (s : List ℕ) (a j : ℕ) (b : Bool) → (b ≡ true → Ascii s a (a + j)) → b && ltb (getD s (a + j) 0) 0x7f ≡ true → Ascii s a (a + (j + 1))
+pub ascii-more : (s : List ℕ) (a j : ℕ) (b : Bool) → (b ≡ true → Ascii s a (a + j)) → b
+    && ltb (getD s (a + j) 0) 0x7f ≡ true → Ascii s a (a + (j + 1))
 ascii-more s a j true f h = one-more (λ i. getD s i 0 < 0x80) a j (f refl) (omega (arith, ltb-true (getD s (a + j) 0) 0x7f h))
 ascii-more s a j false f h = clash h refl
 
@@ -41,7 +42,14 @@ module _ (s : List ℕ) where
       let h2 = f (i + 1) (omega arith) (omega arith) in
       let h1 = f (i + 2) (omega arith) (omega arith) in
       let h = f (i + 3) (omega arith) (omega arith) in
-      rw (leb-no {a = 0xc0} {b = getD s (i + 2) 0} (omega arith), leb-no {a = 0xe0} {b = getD s (i + 1) 0} (omega arith), leb-no {a = 0xf0} {b = getD s i 0} (omega arith), leb-no {a = 0x80} {b = getD s (i + 3) 0} h, leb-no {a = 0xc0} {b = getD s (i + 3) 0} (omega arith), leb-no {a = 0xf5} {b = getD s (i + 3) 0} (omega arith))
+      rw (
+        leb-no {a = 0xc0} {b = getD s (i + 2) 0} (omega arith),
+        leb-no {a = 0xe0} {b = getD s (i + 1) 0} (omega arith),
+        leb-no {a = 0xf0} {b = getD s i 0} (omega arith),
+        leb-no {a = 0x80} {b = getD s (i + 3) 0} h,
+        leb-no {a = 0xc0} {b = getD s (i + 3) 0} (omega arith),
+        leb-no {a = 0xf5} {b = getD s (i + 3) 0} (omega arith),
+      )
 
   pub ascii-on : (i w : ℕ) → Ascii s 0 (i + 3) → Ascii s (i + 3) (i + 3 + w) → Ascii s 0 (i + w + 3)
   ascii-on i w f g k l u = joined (λ k. getD s k 0 < 0x80) 0 (i + 3) (i + 3) (i + 3 + w) (omega arith) f g k l (omega arith)

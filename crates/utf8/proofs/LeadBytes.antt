@@ -52,7 +52,20 @@ module _ (b : ℕ) (h : 256 ≤ b) where
   right-beyond : right b ≡ true
   unfolding right byRule passes leads leadsBy within due pick
   right-beyond =
-      rw (above 0x80 (lit≤ tt), above 0xc0 (lit≤ tt), above 0xc2 (lit≤ tt), above 0xe0 (lit≤ tt), above 0xf0 (lit≤ tt), above 0xf5 (lit≤ tt), not-below 0x7f (lit< tt), not-below 0xbf (lit< tt), not-below 0xc1 (lit< tt), not-below 0xdf (lit< tt), not-below 0xef (lit< tt), not-below 0xf4 (lit< tt))
+      rw (
+        above 0x80 (lit≤ tt),
+        above 0xc0 (lit≤ tt),
+        above 0xc2 (lit≤ tt),
+        above 0xe0 (lit≤ tt),
+        above 0xf0 (lit≤ tt),
+        above 0xf5 (lit≤ tt),
+        not-below 0x7f (lit< tt),
+        not-below 0xbf (lit< tt),
+        not-below 0xc1 (lit< tt),
+        not-below 0xdf (lit< tt),
+        not-below 0xef (lit< tt),
+        not-below 0xf4 (lit< tt),
+      )
 
 module _ (b : ℕ) where
   right-at : (eqb (leads b) (leadsBy b) ≡ true) × (byRule b ≡ true)

@@ -59,7 +59,8 @@ module _ (p3 p2 p1 b : ℕ) (bs : List ℕ) where
     low2 = leb-false 0xe0 p2 (neither (leb 0xc0 p1) _ (neither _ (leb 0xf0 p3) e .0) .1)
 
     high-none : (leb 0xf0 p1 ≡ false) × (leb 0xe0 p1 ≡ false) × (leb 0xf0 p2 ≡ false)
-    high-none = let h1 = low1 in let h2 = low2 in (leb-no {a = 0xf0} {b = p1} (omega arith), leb-no {a = 0xe0} {b = p1} (omega arith), leb-no {a = 0xf0} {b = p2} (omega arith))
+    high-none = let h1 = low1 in let h2 = low2 in
+        (leb-no {a = 0xf0} {b = p1} (omega arith), leb-no {a = 0xe0} {b = p1} (omega arith), leb-no {a = 0xf0} {b = p2} (omega arith))
 
     count-none : dueCount p3 p2 p1 ≡ 0
     unfolding dueCount pick
@@ -90,7 +91,8 @@ module _ (p3 p2 p1 b : ℕ) (bs : List ℕ) where
 
 module _ (p3 p2 p1 : ℕ) (s : List ℕ) (i : ℕ) where
   byte : i < length s
-      → goodAfter (dueCount p3 p2 p1) (drop i s) ≡ (passes p3 p2 p1 (getD s i 0) && goodAfter (dueCount p2 p1 (getD s i 0)) (drop (i + 1) s))
+      → goodAfter (dueCount p3 p2 p1) (drop i s) ≡ (passes p3 p2 p1 (getD s i 0)
+      && goodAfter (dueCount p2 p1 (getD s i 0)) (drop (i + 1) s))
   byte h = rw (add-one, drop-cons s i 0 h) (step p3 p2 p1 (getD s i 0) (drop (suc i) s))
 
   over : length s ≤ i → goodAfter (dueCount p3 p2 p1) (drop i s) ≡ not (due p3 p2 p1)
@@ -121,14 +123,16 @@ module _ (s : List ℕ) where
   failed zero a i q h p = let z : a ≡ i = omega arith in window a (omega arith) ∙ rw (z, p)
   failed (suc n) a i q h p = window a (omega arith) ∙ rw (failed n (a + 1) i (omega arith) h p) (and-false (passesAt s a))
 
-  pub checked-more : (a j : ℕ) (pass r : Bool) → a + j + 3 < length s → r ≡ passesAt s (a + j) → Checked s a (a + j) pass → Checked s a (a + (j + 1)) (pass && r)
+  pub checked-more : (a j : ℕ) (pass r : Bool) → a + j + 3 < length s → r ≡ passesAt s (a + j)
+      → Checked s a (a + j) pass → Checked s a (a + (j + 1)) (pass && r)
   checked-more a j true r h q c =
       ((λ e. one-more (λ i. passesAt s i ≡ true) a j (c .0 refl) (sym q ∙ e)), (λ e. failed j a (a + j) refl h (sym q ∙ e)))
   checked-more a j false r h q c = ((λ e. clash e refl), (λ _. c .1 refl))
 
   -- the first three bytes
   pub started : 3 ≤ length s
-      → utf8 s ≡ (passes 0 0 0 (getD s 0 0) && passes 0 0 (getD s 0 0) (getD s 1 0) && passes 0 (getD s 0 0) (getD s 1 0) (getD s 2 0) && goodFrom s 0)
+      → utf8 s ≡ (passes 0 0 0 (getD s 0 0) && passes 0 0 (getD s 0 0) (getD s 1 0)
+      && passes 0 (getD s 0 0) (getD s 1 0) (getD s 2 0) && goodFrom s 0)
   unfolding utf8 goodFrom dueCount due pick
   started h =
       let x = getD s 0 0 in
@@ -141,7 +145,8 @@ module _ (s : List ℕ) where
   onward i a e h f g = joined (λ k. passesAt s k ≡ true) 0 i a e h f g
 
   -- the last three bytes
-  pub ended : 3 ≤ length s → goodFrom s (length s - 3) ≡ not (due (getD s (length s - 3) 0) (getD s (length s - 2) 0) (getD s (length s - 1) 0))
+  pub ended : 3 ≤ length s
+      → goodFrom s (length s - 3) ≡ not (due (getD s (length s - 3) 0) (getD s (length s - 2) 0) (getD s (length s - 1) 0))
   unfolding goodFrom
   ended h =
       let e1 : length s - 3 + 1 ≡ length s - 2 = omega arith in

@@ -29,10 +29,12 @@ abbrev pub row : ℕ → ℕ → ℕ → Row
 row kind number start = record { kind = kind; number = number; start = start }
 
 -- Where an item is left there is a whole header.
-pub whole {ℓ} : {X : Type ℓ} {o : Options} {bs : List ℕ} {u s : State} {table : List ℕ} {w : Walked} → Walks o bs u s table w → w .at < length bs → none ≡ headerOf (drop (w .at) bs) → X
+pub whole {ℓ} : {X : Type ℓ} {o : Options} {bs : List ℕ} {u s : State} {table : List ℕ} {w : Walked}
+    → Walks o bs u s table w → w .at < length bs → none ≡ headerOf (drop (w .at) bs) → X
 whole {o = o} {bs = bs} {s = s} p l e = never-cut o bs s (p .reads) (omega (arith, p .offset)) (rw (p .offset) at e)
 
-module _ {o : Options} {bs : List ℕ} {u s : State} {table : List ℕ} {w : Walked} (p : Walks o bs u s table w) {h : Header} (e : some h ≡ headerOf (drop (w .at) bs)) where
+module _ {o : Options} {bs : List ℕ} {u s : State} {table : List ℕ} {w : Walked} (p : Walks o bs u s table w)
+    {h : Header} (e : some h ≡ headerOf (drop (w .at) bs)) where
   turned : Turn o bs s u h
   turned = turn bs (p .reads) (rw (p .offset) at e)
 
@@ -47,7 +49,8 @@ module _ {o : Options} {bs : List ℕ} {u s : State} {table : List ℕ} {w : Wal
   pub near : w .at + h .size ≤ max-bytes
   near = omega (arith, inside, p .short)
 
-  module _ {table′ : List ℕ} {r : Walked} (ends : turned .next .at ≡ r .at) (is : r .row ≡ rowOf (turned .y)) (size : length table′ ≡ max-entries) (few : r .entries ≤ max-entries)
+  module _ {table′ : List ℕ} {r : Walked} (ends : turned .next .at ≡ r .at) (is : r .row ≡ rowOf (turned .y))
+      (size : length table′ ≡ max-entries) (few : r .entries ≤ max-entries)
       (entries : turned .next .entries ≡ entriesOf bs table′ (r .entries)) where
     onward : Onward o bs u s table′ w r
     onward =
@@ -57,17 +60,28 @@ module _ {o : Options} {bs : List ℕ} {u s : State} {table : List ℕ} {w : Wal
           x = turned .y;
           found = turn-found turned;
           row = is;
-          walks = record { short = p .short; reads = turned .reads; offset = sym ends; within = omega (arith, turned .within); size = size; few = few; entries = entries };
+          walks = record {
+            short = p .short;
+            reads = turned .reads;
+            offset = sym ends;
+            within = omega (arith, turned .within);
+            size = size;
+            few = few;
+            entries = entries;
+          };
           ahead = omega (arith, turn-forward turned, p .offset);
         }
 
   -- ---- what ends with its header
 
-  module _ {f : Form} (ef : formOf h ≡ f) (flat : isContent f ≡ false) {q : Row} (eq : q ≡ rowOf (turned .y)) {r : Walked} (is : r ≡ record { at = w .at + h .size; entries = w .entries; row = q }) where
+  module _ {f : Form} (ef : formOf h ≡ f) (flat : isContent f ≡ false) {q : Row} (eq : q ≡ rowOf (turned .y))
+      {r : Walked} (is : r ≡ record { at = w .at + h .size; entries = w .entries; row = q }) where
     flat-on : Onward o bs u s table w r
-    flat-on = rw is (onward (flat-ends turned ef flat ∙ ap (λ (n : ℕ). n + h .size) (sym (p .offset))) eq (p .size) (p .few) (flat-kept turned ef flat ∙ p .entries))
+    flat-on = rw is (onward (flat-ends turned ef flat ∙ ap (λ (n : ℕ). n + h .size) (sym (p .offset))) eq (p .size)
+        (p .few) (flat-kept turned ef flat ∙ p .entries))
 
-  pub fixed-on : (k n : ℕ) → formOf h ≡ fixed k n → {r : Walked} → r ≡ record { at = w .at + h .size; entries = w .entries; row = row k n 0 } → Onward o bs u s table w r
+  pub fixed-on : (k n : ℕ) → formOf h ≡ fixed k n → {r : Walked}
+      → r ≡ record { at = w .at + h .size; entries = w .entries; row = row k n 0 } → Onward o bs u s table w r
   unfolding isContent rowOf
   fixed-on k n ef is = flat-on ef refl (sym (ap rowOf (fixed-is turned ef))) is
 
@@ -76,7 +90,8 @@ module _ {o : Options} {bs : List ℕ} {u s : State} {table : List ℕ} {w : Wal
     at-entry = subst (λ (l : List Found). getElem? l (h .payload) ≡ some (turned .y)) (p .entries) (reference-is turned ef)
 
     before : h .payload < w .entries
-    before = order (w .entries) (h .payload) (λ l. none-some (sym (entry-none bs table (w .entries) (p .size) (p .few) (h .payload) l) ∙ at-entry)) (λ l. l)
+    before = order (w .entries) (h .payload)
+        (λ l. none-some (sym (entry-none bs table (w .entries) (p .size) (p .few) (h .payload) l) ∙ at-entry)) (λ l. l)
 
     pub reference-small : h .payload < max-entries
     reference-small = omega (arith, before, p .few)
@@ -84,7 +99,8 @@ module _ {o : Options} {bs : List ℕ} {u s : State} {table : List ℕ} {w : Wal
     pub reference-on : {q : Row} → q ≡ rowIn (getD table (h .payload) 0)
         → {r : Walked} → r ≡ record { at = w .at + h .size; entries = w .entries; row = q } → Onward o bs u s table w r
     unfolding isContent rowOf foundIn nameIn
-    reference-on eq is = flat-on ef refl (eq ∙ ap rowOf (some-inj (sym (entry-is bs table (w .entries) (p .size) (p .few) (h .payload) before) ∙ at-entry))) is
+    reference-on eq is = flat-on ef refl (eq
+        ∙ ap rowOf (some-inj (sym (entry-is bs table (w .entries) (p .size) (p .few) (h .payload) before) ∙ at-entry))) is
 
   -- ---- content
 
@@ -106,8 +122,11 @@ module _ {o : Options} {bs : List ℕ} {u s : State} {table : List ℕ} {w : Wal
     unfolding rowOf
     the-row en = ap (λ (n : ℕ). row k n (w .at + h .size)) en ∙ ap rowOf part
 
-    pub content-on : k < Kind.symbol → {n : ℕ} → n ≡ h .payload → {r : Walked} → r ≡ record { at = w .at + h .size + n; entries = w .entries; row = row k n (w .at + h .size) } → Onward o bs u s table w r
-    content-on l en is = rw is (onward (there en) (the-row en) (p .size) (p .few) (content-kept turned ef (name-is false (leb-no {a = Kind.symbol} {b = k} l)) ∙ p .entries))
+    pub content-on : k < Kind.symbol → {n : ℕ} → n ≡ h .payload → {r : Walked}
+        → r ≡ record { at = w .at + h .size + n; entries = w .entries; row = row k n (w .at + h .size) }
+        → Onward o bs u s table w r
+    content-on l en is = rw is (onward (there en) (the-row en) (p .size) (p .few)
+        (content-kept turned ef (name-is false (leb-no {a = Kind.symbol} {b = k} l)) ∙ p .entries))
 
     module _ (lo : Kind.symbol ≤ k) where
       name : isName (turned .y .item) ≡ true
@@ -116,12 +135,18 @@ module _ {o : Options} {bs : List ℕ} {u s : State} {table : List ℕ} {w : Wal
       pub name-few : w .entries < max-entries
       name-few = omega (arith, name-room turned ef name, ap length (p .entries) ∙ length-entries bs table (w .entries) (p .size) (p .few))
 
-      pub name-on : k ≤ Kind.key → {n : ℕ} → n ≡ h .payload → {table′ : List ℕ} → table′ ≡ set table (w .entries) (plainEntry k (w .at + h .size) n)
-          → {r : Walked} → r ≡ record { at = w .at + h .size + n; entries = w .entries + 1; row = row k n (w .at + h .size) } → Onward o bs u s table′ w r
+      pub name-on : k ≤ Kind.key → {n : ℕ} → n ≡ h .payload → {table′ : List ℕ}
+          → table′ ≡ set table (w .entries) (plainEntry k (w .at + h .size) n)
+          → {r : Walked} → r ≡ record {
+            at = w .at + h .size + n;
+            entries = w .entries + 1;
+            row = row k n (w .at + h .size);
+          } → Onward o bs u s table′ w r
       name-on hi {n} en et is =
           let entry = plainEntry k (w .at + h .size) n in
           let q : Packed entry (w .at + h .size) 0 n k = packed-plain (w .at + h .size) n k (omega (arith, en, content-small)) lo hi in
           let m : foundIn bs entry ≡ turned .y = found-packed bs q ∙ ap (partOf bs k (w .at + h .size)) en ∙ part in
           rw (is, et)
           (onward (there en) (the-row en) (length-set table (w .entries) entry ∙ p .size) (omega (arith, name-few))
-          (name-entry turned ef name ∙ ap₂ (λ (l : List Found) (y : Found). l ++ (y ∷ [])) (p .entries) (sym m) ∙ sym (entries-more bs table (w .entries) (p .size) (p .few) entry name-few)))
+          (name-entry turned ef name ∙ ap₂ (λ (l : List Found) (y : Found). l ++ (y ∷ [])) (p .entries) (sym m)
+          ∙ sym (entries-more bs table (w .entries) (p .size) (p .few) entry name-few)))

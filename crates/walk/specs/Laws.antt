@@ -29,9 +29,11 @@ pub record WalkLaw (o : Options) (bs : List ℕ) (u : State) : Type 0 where
   -- What a loop keeps: it holds before the first item, whatever stands in the table;
   pub first : (table : List ℕ) → length table ≡ max-entries → Walks o bs u start table begin
   -- `next` leads from one item to the next, whose row is the next of the bundle (`Onward`);
-  pub row : {s : State} {table : List ℕ} {w r : Walked} → Onward o bs u s table w r → getElem? (map rowOf (u .found)) (length (s .found)) ≡ some (r .row)
+  pub row : {s : State} {table : List ℕ} {w r : Walked} → Onward o bs u s table w r
+      → getElem? (map rowOf (u .found)) (length (s .found)) ≡ some (r .row)
   -- an item is left as long as a row is;
-  pub left : {s : State} {table : List ℕ} {w : Walked} → Walks o bs u s table w → (w .at < length bs) ↔ (length (s .found) < length (u .found))
+  pub left : {s : State} {table : List ℕ} {w : Walked} → Walks o bs u s table w
+      → (w .at < length bs) ↔ (length (s .found) < length (u .found))
   -- and where none is left all is read, and the walk stands at the end.
   pub last : {s : State} {table : List ℕ} {w : Walked} → Walks o bs u s table w → length bs ≤ w .at → (s ≡ u) × (w .at ≡ length bs)
   -- So after i calls it has the i-th row.

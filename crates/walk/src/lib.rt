@@ -1,4 +1,5 @@
-// The walk over a bundle that reads, item by item: the row of the next item, where the one after it begins, and the entries so far. It judges nothing.
+// The walk over a bundle that reads, item by item: the row of the next item, where the one after it begins, and the
+// entries so far. It judges nothing.
 ghost use mathlib.Core.Path.{_≡_};
 ghost use mathlib.Core.List.{List};
 ghost use mathlib.Core.Option.{some};
@@ -77,7 +78,11 @@ fn name(
     entries: usize,
 ) -> Walked
     requires { ⌜ (Kind.symbol ≤ kind) × (kind ≤ Kind.key) × (next ≤ max-bytes) × (len .0 ≤ max-bytes) × (entries < max-entries) ⌝ }
-    ensures walked { λ r. ⌜ r ≡ record { at = next + len .0; entries = entries + 1; row = record { kind = kind; number = len .0; start = next } } ⌝ }
+    ensures walked { λ r. ⌜ r ≡ record {
+      at = next + len .0;
+      entries = entries + 1;
+      row = record { kind = kind; number = len .0; start = next };
+    } ⌝ }
     ensures entered { λ _. ⌜ now (table .exit) ≡ set (now (table .entry)) entries (plainEntry kind next (len .0)) ⌝ }
 {
     table[entries] = plain_entry(kind, next, len.0 as usize);

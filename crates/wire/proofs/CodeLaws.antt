@@ -21,7 +21,8 @@ pub is-zero : (n : ℕ) → leb 1 n && leb n 2 ≡ false → n < 3 → n ≡ 0
 is-zero zero a l = refl
 is-zero (suc n) a l = clash (and-yes (leb-yes {a = 1} {b = suc n} (omega arith)) (leb-yes {a = suc n} {b = 2} (omega arith))) a
 
-pub form-number : (h : Header) → Code.positive ≤ h .code → h .code ≤ Code.container → formOf h ≡ fixed (h .code + Kind.bytes) (numberOf (h .code) (h .payload))
+pub form-number : (h : Header) → Code.positive ≤ h .code → h .code ≤ Code.container
+    → formOf h ≡ fixed (h .code + Kind.bytes) (numberOf (h .code) (h .payload))
 unfolding formOf numberOf pick
 form-number h l u =
     equal (h .code) Code.positive (λ e. rw e)

@@ -20,7 +20,8 @@ use Rattle.format.proofs.Headers.{payload-inside, shift-other}
 -- ---- numbers
 
 -- one byte more
-pub bigEndian-step : (s : List ℕ) (a i : ℕ) → a + i < length s → bigEndian 0 (take (i + 1) (drop a s)) ≡ bigEndian 0 (take i (drop a s)) * 256 + getD s (a + i) 0
+pub bigEndian-step : (s : List ℕ) (a i : ℕ) → a + i < length s
+    → bigEndian 0 (take (i + 1) (drop a s)) ≡ bigEndian 0 (take i (drop a s)) * 256 + getD s (a + i) 0
 unfolding bigEndian
 bigEndian-step s a i h =
     let l : i < length (drop a s) = omega (arith, length-drop a s) in
@@ -37,7 +38,8 @@ most i h = pow-le-pow-right {n = 256} (lit< tt) {i = i + 1} {j = 8} (omega arith
 
 pub bigEndian-one : (s : List ℕ) (a n : ℕ) → n ≡ 1 → a < length s → getD s a 0 ≡ bigEndian 0 (take n (drop a s))
 unfolding bigEndian
-bigEndian-one s a n e l = rw (e, drop-cons s a 0 l) (let q : bigEndian 0 (take 1 (getD s a 0 ∷ drop (suc a) s)) ≡ 0 * 256 + getD s a 0 = refl in omega arith)
+bigEndian-one s a n e l = rw (e, drop-cons s a 0 l)
+    (let q : bigEndian 0 (take 1 (getD s a 0 ∷ drop (suc a) s)) ≡ 0 * 256 + getD s a 0 = refl in omega arith)
 
 -- ---- headers
 
@@ -56,7 +58,8 @@ module _ (s : List ℕ) (at : ℕ) (h : at < length s) where
         let g : length (drop (at + 1) s) < following (getD s at 0 / 32) (getD s at 0 % 32) = rw (length-drop, ← en) l in
         at-lead ∙ pick-no _ _ (leb-no g)
 
-    pub whole-header : n ≤ length s - (at + 1) → (p z : ℕ) → p ≡ payloadOf (getD s at 0 / 32) (getD s at 0 % 32) n (drop (at + 1) s) → z ≡ 1 + n
+    pub whole-header : n ≤ length s - (at + 1) → (p z : ℕ)
+        → p ≡ payloadOf (getD s at 0 / 32) (getD s at 0 % 32) n (drop (at + 1) s) → z ≡ 1 + n
         → headerOf (drop at s) ≡ some (record { code = getD s at 0 / 32; sz = getD s at 0 % 32; payload = p; size = z })
     unfolding headerOf
     whole-header l p z e ez =

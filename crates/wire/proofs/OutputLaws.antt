@@ -85,7 +85,8 @@ module _ (c p : ℕ) (out : List ℕ) (capacity : length (header c p) ≤ length
     pub long-fits : k ≤ length (take (length (set out 0 (c * 32 + 23 + k)) - 1) (drop 1 (set out 0 (c * 32 + 23 + k))))
     long-fits = rw (length-digits k p) at (byte-fits (header c p) out (digits k p) [] (c * 32 + 23 + k) 0 lead capacity)
 
-    pub put-long : (r : ℕ) (ys : List ℕ) → r ≡ k → ys ≡ digits k p ++ drop k (take (length (set out 0 (c * 32 + 23 + k)) - 1) (drop 1 (set out 0 (c * 32 + 23 + k))))
+    pub put-long : (r : ℕ) (ys : List ℕ) → r ≡ k
+        → ys ≡ digits k p ++ drop k (take (length (set out 0 (c * 32 + 23 + k)) - 1) (drop 1 (set out 0 (c * 32 + 23 + k))))
         → Wrote (header c p) out (putMid 1 (length (set out 0 (c * 32 + 23 + k)) - 1) (set out 0 (c * 32 + 23 + k)) ys) (1 + r) []
     put-long r ys er ey =
         let d = length-digits k p in

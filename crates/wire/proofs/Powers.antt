@@ -22,7 +22,11 @@ before : (acc : ℕ) (bs : List ℕ) → Bytes bs → bigEndian acc bs / 256 ^ l
 unfolding bigEndian
 before acc [] p = rw (pow-zero, div-one)
 before acc (b ∷ bs) p =
-    rw (pow-suc 256 (length bs), ← div-div-eq-div-mul (bigEndian (acc * 256 + b) bs) (256 ^ length bs) 256, before (acc * 256 + b) bs (p .1)) (digits-div acc (p .0))
+    rw (
+      pow-suc 256 (length bs),
+      ← div-div-eq-div-mul (bigEndian (acc * 256 + b) bs) (256 ^ length bs) 256,
+      before (acc * 256 + b) bs (p .1),
+    ) (digits-div acc (p .0))
 
 -- The first n of m bytes.
 pub first-bytes : (s : List ℕ) (a n m : ℕ) → ((i : ℕ) → getD s i 0 < 256) → a + m ≤ length s → n ≤ m
@@ -33,6 +37,8 @@ first-bytes s a n m b l u =
     let rest : length (drop n xs) ≡ m - n = length-drop n xs ∙ ap (λ (k : ℕ). k - n) long in
     let front : take n xs ≡ take n (drop a s) = take-take n m (drop a s) u in
     let whole : bigEndian 0 xs ≡ bigEndian (bigEndian 0 (take n (drop a s))) (drop n xs) =
-    ap (bigEndian 0) (sym (take-append-drop n xs)) ∙ bigEndian-append 0 (take n xs) (drop n xs) ∙ ap (λ (ys : List ℕ). bigEndian (bigEndian 0 ys) (drop n xs)) front in
+    ap (bigEndian 0) (sym (take-append-drop n xs)) ∙ bigEndian-append 0 (take n xs) (drop n xs)
+    ∙ ap (λ (ys : List ℕ). bigEndian (bigEndian 0 ys) (drop n xs)) front in
     let small : Bytes (drop n xs) = all-drop Byte n xs (all-take Byte m (drop a s) (all-drop Byte a s (bytes-of s (λ i _. b i)))) in
-    ap (λ (k : ℕ). bigEndian 0 xs / k) (sym (pow-256 (m - n)) ∙ ap (λ (k : ℕ). 256 ^ k) (sym rest)) ∙ ap (λ (x : ℕ). x / 256 ^ length (drop n xs)) whole ∙ before _ (drop n xs) small
+    ap (λ (k : ℕ). bigEndian 0 xs / k) (sym (pow-256 (m - n)) ∙ ap (λ (k : ℕ). 256 ^ k) (sym rest))
+    ∙ ap (λ (x : ℕ). x / 256 ^ length (drop n xs)) whole ∙ before _ (drop n xs) small

@@ -38,7 +38,8 @@ reach-most b p = order b p (λ l. omega (arith, reach-yes l)) (λ l. omega (arit
 none : (f k p : ℕ) → p < 256 ^ k → reached f k p ≡ 0
 unfolding reached
 none zero k p l = refl
-none (suc f) k p l = let e : 256 ^ (k + 1) ≡ 256 ^ k * 256 = ap (λ n. 256 ^ n) (add-one k) ∙ pow-suc 256 k in omega (arith, reach-no l, none f (k + 1) p (omega (arith, e)))
+none (suc f) k p l = let e : 256 ^ (k + 1) ≡ 256 ^ k * 256 = ap (λ n. 256 ^ n) (add-one k)
+    ∙ pow-suc 256 k in omega (arith, reach-no l, none f (k + 1) p (omega (arith, e)))
 
 width-from : (f k p : ℕ) → widthFrom f k p ≡ k + reached f k p
 unfolding widthFrom reached
@@ -53,7 +54,8 @@ unfolding width
 width-sum p = width-from 7 1 p
 
 -- with the powers worked out
-pub width-is : (p : ℕ) → 1 + reach 256 p + reach 65536 p + reach 16777216 p + reach 4294967296 p + reach 1099511627776 p + reach 281474976710656 p + reach 72057594037927936 p ≡ width p
+pub width-is : (p : ℕ) → 1 + reach 256 p + reach 65536 p + reach 16777216 p + reach 4294967296 p + reach 1099511627776 p
+    + reach 281474976710656 p + reach 72057594037927936 p ≡ width p
 unfolding reached
 width-is p = omega (arith, width-sum p)
 

@@ -60,12 +60,14 @@ module _ {w l₀ l : List ℕ} {n : ℕ} where
       let d : length (drop n l) ≡ length l - n = length-drop n l in
       let z : drop (length l - n) (drop n l) ≡ [] = drop-of-length-le (drop n l) {i = length l - n} (omega arith) in
       let e : length (take n l ++ h) ≡ n + length h = length-append (take n l) h ∙ ap (λ (x : ℕ). x + length h) a in
-      let g : take n l ++ ((h ++ drop (length h) (drop n l)) ++ drop (length l - n) (drop n l)) ≡ (take n l ++ h) ++ drop (length h) (drop n l)
+      let g : take n l ++ ((h ++ drop (length h) (drop n l)) ++ drop (length l - n) (drop n l)) ≡ (take n l ++ h)
+      ++ drop (length h) (drop n l)
       = rw (z, append-nil (h ++ drop (length h) (drop n l)), append-assoc (take n l) h (drop (length h) (drop n l))) in
       rw g
       (record {
         front = rw (take-at (take n l ++ h) (drop (length h) (drop n l)) (n + length h) e, append-assoc) (q .front);
-        back = drop-at (take n l ++ h) (drop (length h) (drop n l)) (n + length h) e ∙ ap (λ (x : List ℕ). drop (length h) x) (q .back) ∙ drop-drop (length h) n l₀;
+        back = drop-at (take n l ++ h) (drop (length h) (drop n l)) (n + length h) e
+            ∙ ap (λ (x : List ℕ). drop (length h) x) (q .back) ∙ drop-drop (length h) n l₀;
         long = length-append (take n l ++ h) (drop (length h) (drop n l)) ∙ omega (arith, e, d, length-drop (length h) (drop n l), q .long);
       })
 
@@ -76,7 +78,8 @@ pub tail : (n : ℕ) (l : List ℕ) → take (length l - n) (drop n l) ≡ drop 
 tail n l = take-all (length l - n) (drop n l) (omega (arith, length-drop n l))
 
 -- the tail from n on came back as ys, with h at its start
-pub part-back : {w l₀ l more rest : List ℕ} {n : ℕ} (h ys : List ℕ) (r : ℕ) → Wrote w l₀ l n more → more ≡ h ++ rest → n ≤ length l → length w ≤ length l₀
+pub part-back : {w l₀ l more rest : List ℕ} {n : ℕ} (h ys : List ℕ) (r : ℕ) → Wrote w l₀ l n more → more ≡ h ++ rest
+    → n ≤ length l → length w ≤ length l₀
     → r ≡ length h → ys ≡ h ++ drop (length h) (take (length l - n) (drop n l)) → Wrote w l₀ (putMid n (length l - n) l ys) (n + r) rest
 part-back {w} {l₀} {l} {more} {rest} {n} h ys r q e le capacity er ey =
     let m : n + length h ≤ length l = fits h rest q e le capacity in
@@ -85,7 +88,8 @@ part-back {w} {l₀} {l} {more} {rest} {n} h ys r q e le capacity er ey =
 -- ---- another start
 
 -- h was written at once, and more is to come
-pub wrote-front : (h rest l₀ l : List ℕ) (n : ℕ) → n ≡ length h → l ≡ h ++ drop (length h) l₀ → length h ≤ length l₀ → Wrote (h ++ rest) l₀ l n rest
+pub wrote-front : (h rest l₀ l : List ℕ) (n : ℕ) → n ≡ length h → l ≡ h ++ drop (length h) l₀ → length h ≤ length l₀
+    → Wrote (h ++ rest) l₀ l n rest
 wrote-front h rest l₀ l n en el capacity =
     rw (en, el)
     (record {
@@ -109,7 +113,8 @@ module _ (w l₀ h ys : List ℕ) (b r : ℕ) (ew : w ≡ b ∷ h) (capacity : l
 
 -- ---- two parts: the first at the start, the second through the tail
 
-module _ (h g l₀ l ys : List ℕ) (n m : ℕ) (en : n ≡ length h) (el : l ≡ h ++ drop (length h) l₀) (capacity : length (h ++ g) ≤ length l₀) where
+module _ (h g l₀ l ys : List ℕ) (n m : ℕ) (en : n ≡ length h) (el : l ≡ h ++ drop (length h) l₀)
+    (capacity : length (h ++ g) ≤ length l₀) where
   pub both-first : Wrote (h ++ g) l₀ l n g
   both-first = wrote-front h g l₀ l n en el (omega (arith, length-append h g))
 
@@ -119,5 +124,6 @@ module _ (h g l₀ l ys : List ℕ) (n m : ℕ) (en : n ≡ length h) (el : l �
   pub both-fits : length g ≤ length (take (length l - n) (drop n l))
   both-fits = rw (tail n l, length-drop n l) (omega (arith, both-first .long, length-append h g))
 
-  pub both-wrote : m ≡ length g → ys ≡ g ++ drop (length g) (take (length l - n) (drop n l)) → Wrote (h ++ g) l₀ (putMid n (length l - n) l ys) (n + m) []
+  pub both-wrote : m ≡ length g → ys ≡ g ++ drop (length g) (take (length l - n) (drop n l))
+      → Wrote (h ++ g) l₀ (putMid n (length l - n) l ys) (n + m) []
   both-wrote em ey = part-back g ys m both-first (sym (append-nil g)) both-start capacity em ey

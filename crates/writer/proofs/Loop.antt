@@ -23,7 +23,8 @@ use Rattle.writer.specs.Verdict.{begun, Judging, Verdict}
 
 module _ (text : List ℕ) (rs : List Row) (n : ℕ) where
   -- before the first row
-  none : (plan : List ℕ) → length plan ≡ plan-size → After text (replicate max-entries 0) (replicate links-size 0) (replicate max-depth 0) plan [] (begun n)
+  none : (plan : List ℕ) → length plan ≡ plan-size
+      → After text (replicate max-entries 0) (replicate links-size 0) (replicate max-depth 0) plan [] (begun n)
   unfolding begun begin top bottom openedOf namesFrom
   none plan long =
       record {
@@ -39,7 +40,8 @@ module _ (text : List ℕ) (rs : List Row) (n : ℕ) where
         measured = measured-none text text plan long (omega arith);
       }
 
-  pub judging-start : (plan : List ℕ) → length plan ≡ plan-size → Judging text rs n (replicate max-entries 0) (replicate links-size 0) (replicate max-depth 0) plan (begun n)
+  pub judging-start : (plan : List ℕ) → length plan ≡ plan-size
+      → Judging text rs n (replicate max-entries 0) (replicate links-size 0) (replicate max-depth 0) plan (begun n)
   unfolding begun
   judging-start plan long = record { going = λ e. (refl, (zero-le, none plan long)); stopped = λ h. absurd (h refl) }
 
@@ -49,7 +51,8 @@ module _ (text : List ℕ) (rs : List Row) (n : ℕ) where
     going less = equal (s .error) 0 (g .going) (λ h. absurd (omega (arith, g .stopped h .0)))
 
     -- what `step` asks
-    pub judging-ready : s .row < s .end → n ≤ max-rows → (0 < n → length text ≤ max-bytes) → Ready text st s × Chained text text es links (s .names) × (length plan ≡ plan-size)
+    pub judging-ready : s .row < s .end → n ≤ max-rows → (0 < n → length text ≤ max-bytes) → Ready text st s
+        × Chained text text es links (s .names) × (length plan ≡ plan-size)
     judging-ready less few short =
         let (end, (le, a)) = going less in (
           record {
@@ -83,11 +86,15 @@ module _ (text : List ℕ) (rs : List Row) (n : ℕ) where
 
       whole : xs ++ (r ∷ rest) ≡ take n rs
       whole =
-          sym (append-assoc xs (r ∷ []) rest) ∙ ap (λ (l : List Row). l ++ rest) (sym up-to ∙ sym (take-take (suc (s .row)) n rs (omega (arith, going less .0))))
+          sym (append-assoc xs (r ∷ []) rest)
+          ∙ ap (λ (l : List Row). l ++ rest) (sym up-to
+          ∙ sym (take-take (suc (s .row)) n rs (omega (arith, going less .0))))
           ∙ take-append-drop (suc (s .row)) (take n rs)
 
       -- one row more, taken or refused
-      pub judging-on : (es′ links′ st′ plan′ : List ℕ) (t : State) → ((xs : List Row) → After text es links st plan xs s → Next text es′ links′ st′ plan′ xs (getD rs (s .row) blank) s t)
+      pub judging-on : (es′ links′ st′ plan′ : List ℕ) (t : State)
+          → ((xs : List Row) → After text es links st plan xs s
+          → Next text es′ links′ st′ plan′ xs (getD rs (s .row) blank) s t)
           → Judging text rs n es′ links′ st′ plan′ t × (t .end - t .row < s .end - s .row)
       judging-on es′ links′ st′ plan′ t step =
           let (end, (le, a)) = going less in
@@ -106,6 +113,7 @@ module _ (text : List ℕ) (rs : List Row) (n : ℕ) where
     pub judging-off : s .end ≤ s .row → Verdict text plan (take n rs) s
     judging-off over =
         record {
-          passed = λ e. let (end, (le, a)) = g .going e in let m : s .row ≡ n = omega arith in record { es = es; links = links; st = st; after = subst (λ (k : ℕ). After text es links st plan (take k rs) s) m a };
+          passed = λ e. let (end, (le, a)) = g .going e in let m : s .row ≡ n = omega arith in
+              record { es = es; links = links; st = st; after = subst (λ (k : ℕ). After text es links st plan (take k rs) s) m a };
           refused = λ h. g .stopped h .1;
         }

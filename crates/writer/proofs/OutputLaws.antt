@@ -22,7 +22,9 @@ module _ (text : List ℕ) (row : Row) where
   headed k = full-other (itemAt text row) k
 
   module _ (plan : List ℕ) (i : ℕ) where
-    pub at-name : Kind.symbol ≤ row .kind → encodedAt plan i (itemAt text row) ≡ referring (getD plan i 0) (header (row .kind - Kind.bytes) (row .number) ++ contentOf text row)
+    pub at-name : Kind.symbol ≤ row .kind
+        → encodedAt plan i (itemAt text row) ≡ referring (getD plan i 0)
+        (header (row .kind - Kind.bytes) (row .number) ++ contentOf text row)
     unfolding encodedAt isName itemAt
     at-name l = pick-yes _ _ (leb-yes l) ∙ ap (referring (getD plan i 0)) (headed (omega arith))
 
@@ -31,11 +33,13 @@ module _ (text : List ℕ) (row : Row) where
     other l = pick-no _ _ (leb-no l)
 
     -- with no content: null, true, false and the floats
-    pub at-fixed : row .kind < Kind.bytes → encodedAt plan i (itemAt text row) ≡ full (record { kind = row .kind; number = row .number; content = [] })
+    pub at-fixed : row .kind < Kind.bytes
+        → encodedAt plan i (itemAt text row) ≡ full (record { kind = row .kind; number = row .number; content = [] })
     unfolding itemAt
     at-fixed l =
         let m = following 0 (row .kind) in
-        other (omega arith) ∙ full-fixed (itemAt text row) m l refl ∙ sym (full-fixed (record { kind = row .kind; number = row .number; content = [] }) m l refl)
+        other (omega arith) ∙ full-fixed (itemAt text row) m l refl
+        ∙ sym (full-fixed (record { kind = row .kind; number = row .number; content = [] }) m l refl)
 
     module _ (k : Kind.bytes ≤ row .kind) (l : row .kind < Kind.symbol) where
       pub at-header : encodedAt plan i (itemAt text row) ≡ header (row .kind - Kind.bytes) (row .number) ++ contentOf text row
@@ -44,4 +48,5 @@ module _ (text : List ℕ) (row : Row) where
       -- with no content
       pub at-plain : hasContent (row .kind) ≡ false → encodedAt plan i (itemAt text row) ≡ header (row .kind - Kind.bytes) (row .number)
       unfolding contentOf
-      at-plain h = at-header ∙ rw (pick-no (take (row .number) (drop (row .start) text)) [] h) (append-nil (header (row .kind - Kind.bytes) (row .number)))
+      at-plain h = at-header ∙ rw (pick-no (take (row .number) (drop (row .start) text)) [] h)
+          (append-nil (header (row .kind - Kind.bytes) (row .number)))

@@ -26,7 +26,8 @@ use Rattle.writer.specs.Putting.{Putting}
 use Rattle.format.specs.Rows.{blank}
 
 -- row i, after those before it
-module _ (text plan : List ℕ) (rows : List Row) (n capacity : ℕ) (p : Putting text plan (take n rows) capacity) (le : n ≤ length rows) (i : ℕ) (lt : i < n) where
+module _ (text plan : List ℕ) (rows : List Row) (n capacity : ℕ) (p : Putting text plan (take n rows) capacity)
+    (le : n ≤ length rows) (i : ℕ) (lt : i < n) where
   abbrev xs : List Item
   xs = itemsAt text (take i rows)
 
@@ -37,7 +38,8 @@ module _ (text plan : List ℕ) (rows : List Row) (n capacity : ℕ) (p : Puttin
   later = drop (suc i) (take n rows)
 
   rows-split : take n rows ≡ take i rows ++ (getD rows i blank ∷ later)
-  rows-split = split-at (take n rows) i blank (rw (length-take-le n rows le) lt) ∙ rw (take-take i n rows (omega arith), getD-take n rows i blank lt)
+  rows-split = split-at (take n rows) i blank (rw (length-take-le n rows le) lt)
+      ∙ rw (take-take i n rows (omega arith), getD-take n rows i blank lt)
 
   items-split : itemsAt text (take n rows) ≡ xs ++ (x ∷ itemsAt text later)
   items-split = ap (itemsAt text) rows-split ∙ map-append (itemAt text) (take i rows) (getD rows i blank ∷ later)
@@ -56,23 +58,35 @@ module _ (text plan : List ℕ) (rows : List Row) (n capacity : ℕ) (p : Puttin
 
   -- what `put_next` asks
   pub next-asks : (at : ℕ) (new : List ℕ) → length new ≡ capacity → at ≡ length (canonical xs)
-      → (i < max-rows) × (length plan ≡ plan-size) × (length text ≤ max-bytes) × (isBad text (getD rows i blank) ≡ false) × (at + length (encodedAt plan i x) ≤ length new)
-  next-asks at new e f =
-      (lt-of-lt-of-le lt (rw (length-map (take n rows) (itemAt text), length-take-le n rows le) at (p .planned .long)), p .long, p .short (rw (length-take-le n rows le) (omega arith)), sound, rw (e, f) (rw count at (one-fits plan capacity xs x (itemsAt text later) planned few fits)))
+      → (i < max-rows) × (length plan ≡ plan-size) × (length text ≤ max-bytes)
+      × (isBad text (getD rows i blank) ≡ false) × (at + length (encodedAt plan i x) ≤ length new)
+  next-asks at new e f = (
+    lt-of-lt-of-le lt (rw (length-map (take n rows) (itemAt text), length-take-le n rows le)
+        at (p .planned .long)),
+    p .long,
+    p .short (rw (length-take-le n rows le) (omega arith)),
+    sound,
+    rw (e, f) (rw count at (one-fits plan capacity xs x (itemsAt text later) planned few fits)),
+  )
     where
       sound : isBad text (getD rows i blank) ≡ false
-      sound = all-at (λ (r : Row). isBad text r ≡ false) (take i rows ++ (getD rows i blank ∷ later)) (length (take i rows)) (rw rows-split at (p .fine)) (at-seam (take i rows) later (getD rows i blank))
+      sound = all-at (λ (r : Row). isBad text r ≡ false) (take i rows ++ (getD rows i blank ∷ later))
+          (length (take i rows)) (rw rows-split at (p .fine)) (at-seam (take i rows) later (getD rows i blank))
 
   more : itemsAt text (take (i + 1) rows) ≡ xs ++ (x ∷ [])
   more = rw (add-one, take-suc rows i blank (omega arith)) (map-append (itemAt text) (take i rows) (getD rows i blank ∷ []))
 
-  pub put-more : (at r : ℕ) (old new next : List ℕ) → Puts (canonical xs) at old new → PutsAt at (encodedAt plan i x) r new next → Puts (canonical (itemsAt text (take (i + 1) rows))) r old next
-  put-more at r old new next a b = rw more (puts-more plan capacity xs x (itemsAt text later) planned few fits at r old new next a (rw count b))
+  pub put-more : (at r : ℕ) (old new next : List ℕ) → Puts (canonical xs) at old new
+      → PutsAt at (encodedAt plan i x) r new next → Puts (canonical (itemsAt text (take (i + 1) rows))) r old next
+  put-more at r old new next a b = rw more (puts-more plan capacity xs x (itemsAt text later) planned few fits at r old
+      new next a (rw count b))
 
 pub put-none : (text : List ℕ) (rows : List Row) (old : List ℕ) → Puts (canonical (itemsAt text (take 0 rows))) 0 old old
 unfolding canonical canonicalFrom
 put-none text rows old = (refl, refl)
 
-pub put-all : (text : List ℕ) (rows : List Row) (n i at : ℕ) (old new : List ℕ) → i ≡ n → Puts (canonical (itemsAt text (take i rows))) at old new → new ≡ stored old (good (canonical (itemsAt text (take n rows))))
+pub put-all : (text : List ℕ) (rows : List Row) (n i at : ℕ) (old new : List ℕ) → i ≡ n
+    → Puts (canonical (itemsAt text (take i rows))) at old new
+    → new ≡ stored old (good (canonical (itemsAt text (take n rows))))
 unfolding stored
 put-all text rows n i at old new e p = rw (← e) (p .1)

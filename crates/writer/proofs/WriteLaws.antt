@@ -51,10 +51,12 @@ unfolding limitOf
 limit-all l m = pick-no _ _ (or-no (ltb-no l) (ltb-no m))
 
 -- what `judge` asks
-pub judge-asks : (rs : List Row) (text plan : List ℕ) (n : ℕ) → n ≡ limitOf (length rs) (length text) → length plan ≡ plan-size → (n ≤ length rs) × (n ≤ max-rows) × (0 < n → length text ≤ max-bytes) × (length plan ≡ plan-size)
+pub judge-asks : (rs : List Row) (text plan : List ℕ) (n : ℕ) → n ≡ limitOf (length rs) (length text)
+    → length plan ≡ plan-size → (n ≤ length rs) × (n ≤ max-rows) × (0 < n → length text ≤ max-bytes) × (length plan ≡ plan-size)
 judge-asks rs text plan n e long =
     order (length rs) max-rows
-    (λ l. order (length text) max-bytes (λ m. let z = e ∙ limit-all l m in (omega arith, omega arith, λ _. m, long)) (λ m. let z = e ∙ limit-text (length rs) m in (omega arith, omega arith, λ q. absurd (omega arith), long)))
+    (λ l. order (length text) max-bytes (λ m. let z = e ∙ limit-all l m in (omega arith, omega arith, λ _. m, long))
+    (λ m. let z = e ∙ limit-text (length rs) m in (omega arith, omega arith, λ q. absurd (omega arith), long)))
     (λ l. let z = e ∙ limit-rows (length text) l in (omega arith, omega arith, λ q. absurd (omega arith), long))
 
 -- ---- the error of a row
@@ -116,11 +118,13 @@ module _ (rs : List Row) (text : List ℕ) (capacity : ℕ) where
 
 -- ---- the answer of `decide`
 
-answers-fail : (rs : List Row) (text : List ℕ) (capacity : ℕ) (k : Error) (p : ℕ) → writing rs text capacity ≡ fail k p → fail k p ≡ counted (writing rs text capacity)
+answers-fail : (rs : List Row) (text : List ℕ) (capacity : ℕ) (k : Error) (p : ℕ) → writing rs text capacity ≡ fail k p
+    → fail k p ≡ counted (writing rs text capacity)
 unfolding counted then fail
 answers-fail rs text capacity k p e = rw e
 
-module _ (rs : List Row) (bs plan : List ℕ) (rows text capacity : ℕ) (s : State) (er : length rs ≡ rows) (eb : length bs ≡ text) (v : Verdict bs plan (take (limitOf rows text) rs) s) where
+module _ (rs : List Row) (bs plan : List ℕ) (rows text capacity : ℕ) (s : State) (er : length rs ≡ rows)
+    (eb : length bs ≡ text) (v : Verdict bs plan (take (limitOf rows text) rs) s) where
   pub answer-rows : max-rows < rows → fail TooManyRows 0 ≡ counted (writing rs bs capacity)
   answer-rows l = answers-fail rs bs capacity TooManyRows 0 (writing-rows rs bs capacity (rw er l))
 
@@ -131,15 +135,19 @@ module _ (rs : List Row) (bs plan : List ℕ) (rows text capacity : ℕ) (s : St
     all-judged : Verdict bs plan rs s
     all-judged = rw (limit-all few short, ← er, take-length rs) at v
 
-    pub answer-refused : (k : Error) → s .error ≢ 0 → ((e : Error) → RowError e → codeOf e ≡ s .error → k ≡ e) → fail k (s .row) ≡ counted (writing rs bs capacity)
+    pub answer-refused : (k : Error) → s .error ≢ 0 → ((e : Error) → RowError e → codeOf e ≡ s .error → k ≡ e)
+        → fail k (s .row) ≡ counted (writing rs bs capacity)
     answer-refused k n h =
         let f = all-judged .refused n in
         let e = f .error in
-        rw (h e (f .of-row) (f .number)) (answers-fail rs bs capacity e (s .row) (writing-refused rs bs capacity (rw er few) (rw eb short) e (s .row) (f .is)))
+        rw (h e (f .of-row) (f .number))
+        (answers-fail rs bs capacity e (s .row) (writing-refused rs bs capacity (rw er few) (rw eb short) e (s .row)
+        (f .is)))
 
     module _ (fine : s .error ≡ 0) where
       pub answer-due : dueIn s ≡ true → fail Truncated (s .row) ≡ counted (writing rs bs capacity)
-      answer-due d = answers-fail rs bs capacity Truncated (s .row) (writing-due rs bs capacity (rw er few) (rw eb short) (all-judged .passed fine) d)
+      answer-due d = answers-fail rs bs capacity Truncated (s .row)
+          (writing-due rs bs capacity (rw er few) (rw eb short) (all-judged .passed fine) d)
 
       fits-in : dueIn s ≡ false → writing rs bs capacity ≡ fitted capacity (canonical (itemsAt bs rs))
       fits-in d = writing-fitted rs bs capacity (rw er few) (rw eb short) (all-judged .passed fine) d
@@ -151,7 +159,8 @@ module _ (rs : List Row) (bs plan : List ℕ) (rows text capacity : ℕ) (s : St
       isOver = ltb (min max-bytes capacity) (s .size)
 
       pub answer-over : dueIn s ≡ false → isOver ≡ true → fail OutputTooLong 0 ≡ counted (writing rs bs capacity)
-      answer-over d l = answers-fail rs bs capacity OutputTooLong 0 (fits-in d ∙ fitted-over capacity (canonical (itemsAt bs rs)) (rw (← size-is) (leb-true _ _ l)))
+      answer-over d l = answers-fail rs bs capacity OutputTooLong 0 (fits-in d
+          ∙ fitted-over capacity (canonical (itemsAt bs rs)) (rw (← size-is) (leb-true _ _ l)))
 
       pub answer-good : dueIn s ≡ false → isOver ≡ false → good (s .size) ≡ counted (writing rs bs capacity)
       unfolding counted then
@@ -160,17 +169,20 @@ module _ (rs : List Row) (bs plan : List ℕ) (rows text capacity : ℕ) (s : St
 -- ---- the rows that are written
 
 -- rows that pass are all taken
-judged-good : (text plan : List ℕ) (rs : List Row) (s : State) (u : Progress) → Verdict text plan rs s → judge text begin rs ≡ good u → Passed text plan rs s × (u .items ≡ itemsAt text rs)
+judged-good : (text plan : List ℕ) (rs : List Row) (s : State) (u : Progress) → Verdict text plan rs s
+    → judge text begin rs ≡ good u → Passed text plan rs s × (u .items ≡ itemsAt text rs)
 unfolding fail
 judged-good text plan rs s u v j =
     equal (s .error) 0
     (λ z.
     let g = v .passed z in
-    cases (dueIn s) (λ d. failed-good (sym (passed-ends g ∙ pick-yes _ _ d) ∙ j)) (λ d. (g, ap (λ (t : Progress). t .items) (sym (good-inj (sym (passed-ends g ∙ pick-no _ _ d) ∙ j))) ∙ g .after .items)))
+    cases (dueIn s) (λ d. failed-good (sym (passed-ends g ∙ pick-yes _ _ d) ∙ j))
+    (λ d. (g, ap (λ (t : Progress). t .items) (sym (good-inj (sym (passed-ends g ∙ pick-no _ _ d) ∙ j))) ∙ g .after .items)))
     (λ z. failed-good (sym (v .refused z .is) ∙ j))
 
 -- all rows can be written as they were planned, or none
-putting-all : {text plan : List ℕ} {rs : List Row} {s : State} (g : Passed text plan rs s) (capacity : ℕ) → length text ≤ max-bytes → length (canonical (itemsAt text rs)) ≤ capacity → Putting text plan rs capacity
+putting-all : {text plan : List ℕ} {rs : List Row} {s : State} (g : Passed text plan rs s) (capacity : ℕ)
+    → length text ≤ max-bytes → length (canonical (itemsAt text rs)) ≤ capacity → Putting text plan rs capacity
 putting-all g capacity short fits =
     let m = measured g in
     record { long = m .plan-size; short = λ _. short; fine = g .after .fine; planned = m .planned; few = few-names g; fits = fits }
@@ -194,25 +206,35 @@ record Succeeds (text plan : List ℕ) (rs : List Row) (capacity : ℕ) (bs : Li
   putting : Putting text plan rs capacity
   bytes : bs ≡ canonical (itemsAt text rs)
 
-wrote : (text plan : List ℕ) (rs : List Row) (capacity : ℕ) (s : State) (bs : List ℕ) → Verdict text plan (take (limitOf (length rs) (length text)) rs) s → writing rs text capacity ≡ good bs → Succeeds text plan rs capacity bs
+wrote : (text plan : List ℕ) (rs : List Row) (capacity : ℕ) (s : State) (bs : List ℕ)
+    → Verdict text plan (take (limitOf (length rs) (length text)) rs) s → writing rs text capacity ≡ good bs
+    → Succeeds text plan rs capacity bs
 unfolding fail
 wrote text plan rs capacity s bs v e =
     order (length rs) max-rows
     (λ few. order (length text) max-bytes
     (λ short.
-    let (u, j, f) = then-good (judge text begin rs) (λ t. fitted capacity (canonical (t .items))) (sym (writing-judged rs text capacity few short) ∙ e) in
+    let (u, j, f) = then-good (judge text begin rs) (λ t. fitted capacity (canonical (t .items)))
+    (sym (writing-judged rs text capacity few short) ∙ e) in
     let (fits, bytes) = fitted-good capacity (canonical (u .items)) f in
     let (g, items) = judged-good text plan rs s u (rw (limit-all few short, take-length rs) at v) j in
-    record { few = few; short = short; putting = putting-all g capacity short (rw (← items) (omega (arith, fits))); bytes = sym bytes ∙ ap canonical items })
+    record {
+      few = few;
+      short = short;
+      putting = putting-all g capacity short (rw (← items) (omega (arith, fits)));
+      bytes = sym bytes ∙ ap canonical items;
+    })
     (λ m. failed-good (sym (writing-text rs text capacity few m) ∙ e)))
     (λ l. failed-good (sym (writing-rows rs text capacity l) ∙ e))
 
-module _ (rs : List Row) (text plan out : List ℕ) (s : State) (v : Verdict text plan (take (limitOf (length rs) (length text)) rs) s) (long : length plan ≡ plan-size) where
+module _ (rs : List Row) (text plan out : List ℕ) (s : State)
+    (v : Verdict text plan (take (limitOf (length rs) (length text)) rs) s) (long : length plan ≡ plan-size) where
   abbrev n : ℕ
   n = limitOf (length rs) (length text)
 
   by-answer : (k : ℕ) (w : Answer (List ℕ)) → writing rs text (length out) ≡ w → k ≡ rowsIn (counted w) n
-      → (k ≤ length rs) × (Putting text plan (take k rs) (length out) × (stored out (good (canonical (itemsAt text (take k rs)))) ≡ stored out w))
+      → (k ≤ length rs) × (Putting text plan (take k rs) (length out)
+      × (stored out (good (canonical (itemsAt text (take k rs)))) ≡ stored out w))
   unfolding rowsIn counted then stored canonical canonicalFrom
   by-answer k (failed f) h e = rw e (omega arith, (putting-none text plan rs (length out) long, refl))
   by-answer k (good bs) h e =
@@ -220,7 +242,8 @@ module _ (rs : List Row) (text plan out : List ℕ) (s : State) (v : Verdict tex
       rw (e, limit-all (w .few) (w .short), take-length rs) (le-refl (length rs), (w .putting, rw (w .bytes)))
 
   module _ (r : Written) (k : ℕ) (e : answerOf r ≡ counted (writing rs text (length out))) (ek : k ≡ rowsIn (answerOf r) n) where
-    all : (k ≤ length rs) × (Putting text plan (take k rs) (length out) × (stored out (good (canonical (itemsAt text (take k rs)))) ≡ stored out (writing rs text (length out))))
+    all : (k ≤ length rs) × (Putting text plan (take k rs) (length out)
+        × (stored out (good (canonical (itemsAt text (take k rs)))) ≡ stored out (writing rs text (length out))))
     all = by-answer k (writing rs text (length out)) refl (ek ∙ ap (λ (a : Answer ℕ). rowsIn a n) e)
 
     -- what `put` asks

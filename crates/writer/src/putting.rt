@@ -25,7 +25,8 @@ use wire::output::put_header;
 
 // One row.
 fn put_row(out: &mut [u8], text: &[u8], plan: &[u16; Plan::SIZE], i: usize, row: Row) -> usize
-    requires { ⌜ (i < max-rows) × (length (now plan) ≡ plan-size) × (length (now text) ≤ max-bytes) × (isBad (now text) row ≡ false) × (length (encodedAt (now plan) i (itemAt (now text) row)) ≤ length (now out)) ⌝ }
+    requires { ⌜ (i < max-rows) × (length (now plan) ≡ plan-size) × (length (now text) ≤ max-bytes)
+        × (isBad (now text) row ≡ false) × (length (encodedAt (now plan) i (itemAt (now text) row)) ≤ length (now out)) ⌝ }
     ensures { λ r. ⌜ Puts (encodedAt (now (plan .entry)) i (itemAt (now (text .entry)) row)) r (now (out .entry)) (now (out .exit)) ⌝ }
 {
     let kind = row.kind;
@@ -50,7 +51,8 @@ fn put_next(
     i: usize,
     row: Row,
 ) -> usize
-    requires { ⌜ (i < max-rows) × (length (now plan) ≡ plan-size) × (length (now text) ≤ max-bytes) × (isBad (now text) row ≡ false) × (at + length (encodedAt (now plan) i (itemAt (now text) row)) ≤ length (now out)) ⌝ }
+    requires { ⌜ (i < max-rows) × (length (now plan) ≡ plan-size) × (length (now text) ≤ max-bytes)
+        × (isBad (now text) row ≡ false) × (at + length (encodedAt (now plan) i (itemAt (now text) row)) ≤ length (now out)) ⌝ }
     ensures { λ r. ⌜ PutsAt at (encodedAt (now (plan .entry)) i (itemAt (now (text .entry)) row)) r (now (out .entry)) (now (out .exit)) ⌝ }
 {
     at + put_row(&mut out[at..], text, plan, i, row)
@@ -59,7 +61,8 @@ fn put_next(
 // The first n rows: by hand, since it reads a slice of structs.
 pub fn put(rows: &[Row], text: &[u8], plan: &[u16; Plan::SIZE], out: &mut [u8], n: usize)
     requires { ⌜ (n ≤ length (now rows)) × Putting (now text) (now plan) (take n (now rows)) (length (now out)) ⌝ }
-    ensures { λ _. ⌜ now (out .exit) ≡ stored (now (out .entry)) (good (canonical (itemsAt (now (text .entry)) (take n (now (rows .entry)))))) ⌝ }
+    ensures { λ _. ⌜ now (out .exit) ≡ stored (now (out .entry))
+        (good (canonical (itemsAt (now (text .entry)) (take n (now (rows .entry)))))) ⌝ }
 {
     let mut at = 0;
     let mut i = 0;

@@ -62,7 +62,8 @@ fn is_due(s: State) -> bool
 
 // The answer, once the rows are judged.
 fn decide(rows: usize, text: usize, capacity: usize, s: State) -> Written
-    ensures { λ r. ⌜ ((rs : List Row) (bs plan : List ℕ) → length rs ≡ rows → length bs ≡ text → Verdict bs plan (take (limitOf rows text) rs) s → answerOf r ≡ counted (writing rs bs capacity)) ⌝ }
+    ensures { λ r. ⌜ ((rs : List Row) (bs plan : List ℕ) → length rs ≡ rows → length bs ≡ text
+        → Verdict bs plan (take (limitOf rows text) rs) s → answerOf r ≡ counted (writing rs bs capacity)) ⌝ }
 {
     if Row::MAX_COUNT < rows {
         return Written::fail(Error::TooManyRows, 0);
@@ -94,7 +95,8 @@ fn count_of(answer: Written, n: usize) -> usize
 
 // Writes the canonical encoding of rows over a text; on an error no byte is changed.
 pub fn write(rows: &[Row], text: &[u8], out: &mut [u8]) -> Written
-    ensures { λ r. ⌜ Writes (writing (now (rows .entry)) (now (text .entry)) (length (now (out .entry)))) (now (out .entry)) r (now (out .exit)) ⌝ }
+    ensures { λ r. ⌜ Writes (writing (now (rows .entry)) (now (text .entry)) (length (now (out .entry))))
+        (now (out .entry)) r (now (out .exit)) ⌝ }
 {
     let mut plan = [0u16; Plan::SIZE];
     let n = limit(rows.len(), text.len());

@@ -15,7 +15,10 @@ same-length : tie.Need-same-length
 same-length c = search needs
 
 returns : tie.Need-returns
-returns c = (c .written-of .ensures ∙ ap countAnswer (c .before .before .before .canonicalize .ensures .answer), c .before .before .before .canonicalize .ensures .buffer)
+returns c = (
+  c .written-of .ensures ∙ ap countAnswer (c .before .before .before .canonicalize .ensures .answer),
+  c .before .before .before .canonicalize .ensures .buffer,
+)
 
 pub nachricht-canonicalize-spec : {M : Type 1} → statement M
 nachricht-canonicalize-spec =

@@ -22,7 +22,10 @@ answer-of-requires c κs = search needs
 
 -- src/lib.rt:58:1
 returns : tie.Need-returns
-returns c = c .answer-of .ensures ∙ ap countsAnswer (c .before .check-in .ensures ∙ ap (λ (m : Mode). counts (options m max-rows) (c .before .before .before .before .args .bytes .now)) (c .before .before .mode-of .ensures))
+returns c = c .answer-of .ensures
+    ∙ ap countsAnswer (c .before .check-in .ensures
+    ∙ ap (λ (m : Mode). counts (options m max-rows) (c .before .before .before .before .args .bytes .now))
+    (c .before .before .mode-of .ensures))
 
 pub nachricht-check-spec : {M : Type 1} → statement M
 nachricht-check-spec =

@@ -87,7 +87,8 @@ content-requires c κs =
 returns-4 : tie.Need-returns-4
 returns-4 c =
     let q = c .before .before .before .before .before .before .before .before .before in
-    let f = form-text (q .args .h) (omega (arith, c .before .before .if4 .taken)) (omega (arith, c .before .before .if4 .taken)) ∙ ap (λ (c : ℕ). content (c + 5)) (c .before .before .if4 .taken) in
+    let f = form-text (q .args .h) (omega (arith, c .before .before .if4 .taken))
+    (omega (arith, c .before .before .if4 .taken)) ∙ ap (λ (c : ℕ). content (c + 5)) (c .before .before .if4 .taken) in
     λ bs e o u s p. content-on p e f (omega arith) (c .before .of2 .ensures) (c .content .ensures)
 
 of-requires-3 : tie.Need-of-requires-3
@@ -99,7 +100,8 @@ fixed-requires-2 c κs = search needs
 returns-5 : tie.Need-returns-5
 returns-5 c =
     let q = c .before .before .before .before .before .before .before .before .before .before in
-    λ bs e o u s p. fixed-on p e _ _ (form-container (q .args .h) (c .before .before .if5 .taken)) (rw (c .before .of3 .ensures) at (c .fixed2 .ensures))
+    λ bs e o u s p. fixed-on p e _ _ (form-container (q .args .h) (c .before .before .if5 .taken))
+    (rw (c .before .of3 .ensures) at (c .fixed2 .ensures))
 
 fixed-requires-3 : tie.Need-fixed-requires-3
 fixed-requires-3 c κs = search needs
@@ -107,7 +109,10 @@ fixed-requires-3 c κs = search needs
 returns-6 : tie.Need-returns-6
 returns-6 c =
     let q = c .before .before .before .before .before .before .before .before .before .before in
-    let z = is-zero (q .args .h .code) (sym (c .before .before .before .before .before .before .before .is-integer .ensures) ∙ c .before .before .before .before .before .before .if1 .left) (omega (arith, c .before .before .before .before .if3 .left, c .before .before .before .if4 .left, c .before .before .if5 .left)) in
+    let z = is-zero (q .args .h .code)
+    (sym (c .before .before .before .before .before .before .before .is-integer .ensures)
+    ∙ c .before .before .before .before .before .before .if1 .left)
+    (omega (arith, c .before .before .before .before .if3 .left, c .before .before .before .if4 .left, c .before .before .if5 .left)) in
     λ bs e o u s p. fixed-on p e _ _ (form-small p e z (c .before .if6 .taken)) (c .fixed3 .ensures)
 
 of-requires-4 : tie.Need-of-requires-4
@@ -116,7 +121,10 @@ of-requires-4 c κs = search needs
 content-requires-2 : tie.Need-content-requires-2
 content-requires-2 c κs =
     let q = c .before .before .before .before .before .before .before .before .before .before in
-    let z = is-zero (q .args .h .code) (sym (c .before .before .before .before .before .before .before .is-integer .ensures) ∙ c .before .before .before .before .before .before .if1 .left) (omega (arith, c .before .before .before .before .if3 .left, c .before .before .before .if4 .left, c .before .before .if5 .left)) in
+    let z = is-zero (q .args .h .code)
+    (sym (c .before .before .before .before .before .before .before .is-integer .ensures)
+    ∙ c .before .before .before .before .before .before .if1 .left)
+    (omega (arith, c .before .before .before .before .if3 .left, c .before .before .before .if4 .left, c .before .before .if5 .left)) in
     let p = q .pre .1 .walks in
     let e = q .pre .2 in
     (near p e, rw (c .of4 .ensures) (content-small p e (form-bytes (q .args .h) z (c .before .if6 .left))))
@@ -124,8 +132,12 @@ content-requires-2 c κs =
 returns-7 : tie.Need-returns-7
 returns-7 c =
     let q = c .before .before .before .before .before .before .before .before .before .before .before in
-    let z = is-zero (q .args .h .code) (sym (c .before .before .before .before .before .before .before .before .is-integer .ensures) ∙ c .before .before .before .before .before .before .before .if1 .left) (omega (arith, c .before .before .before .before .before .if3 .left, c .before .before .before .before .if4 .left, c .before .before .before .if5 .left)) in
-    λ bs e o u s p. content-on p e (form-bytes (q .args .h) z (c .before .before .if6 .left)) (omega arith) (c .before .of4 .ensures) (c .content2 .ensures)
+    let z = is-zero (q .args .h .code)
+    (sym (c .before .before .before .before .before .before .before .before .is-integer .ensures)
+    ∙ c .before .before .before .before .before .before .before .if1 .left)
+    (omega (arith, c .before .before .before .before .before .if3 .left, c .before .before .before .before .if4 .left, c .before .before .before .if5 .left)) in
+    λ bs e o u s p. content-on p e (form-bytes (q .args .h) z (c .before .before .if6 .left)) (omega arith)
+    (c .before .of4 .ensures) (c .content2 .ensures)
 
 pub headed-spec : {M : Type 1} → statement M
 headed-spec =

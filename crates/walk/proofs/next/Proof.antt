@@ -29,7 +29,8 @@ returns c =
 returns-2 : tie.Need-returns-2
 returns-2 c =
     let q = c .before .before .before .before .before .before .before in
-    c .headed .ensures (q .args .s .now) (rw (c .before .before .before .h .given .1) at (c .before .before .before .before .before .header-at .ensures))
+    c .headed .ensures (q .args .s .now)
+    (rw (c .before .before .before .h .given .1) at (c .before .before .before .before .before .header-at .ensures))
 
 pub next-spec : {M : Type 1} → statement M
 next-spec =

@@ -1,4 +1,5 @@
--- `ascii::number::put_decimal` meets its contract: one digit, two, or those of a hundredth and then the last two. The number falls. Assumes nothing.
+-- `ascii::number::put_decimal` meets its contract: one digit, two, or those of a hundredth and then the last two. The
+-- number falls. Assumes nothing.
 use native.Mathlib.Omega.{arith}
 use borrow.Author.Needs.{needs}
 use Rattle.ascii.proofs.Writing.{room, next-byte, ends}
@@ -97,7 +98,8 @@ put-decimal-add-out-4 t c = search needs
 put-decimal-slice-write-out-4 : (t : ℕ) → put-decimal-lts.Need-slice-write-out-4 (claims t) (put-decimal-at t) put-decimal.Post
 put-decimal-slice-write-out-4 t c =
     let s = c .before .before .before .before .before .before .before in
-    let q = last-digits (s .args .n) (s .args .out .now) (s .pre .1) (c .before .before .before .before .if2 .left) (s .fits .n .fits) _ _ (c .before .before .put-decimal .ensures) in
+    let q = last-digits (s .args .n) (s .args .out .now) (s .pre .1) (c .before .before .before .before .if2 .left)
+    (s .fits .n .fits) _ _ (c .before .before .put-decimal .ensures) in
     omega (arith, room q)
 
 put-decimal-cast-out-5 : (t : ℕ) → put-decimal-lts.Need-cast-out-5 (claims t) (put-decimal-at t) put-decimal.Post
@@ -109,31 +111,36 @@ put-decimal-add-out-5 t c = search needs
 put-decimal-add-out-6 : (t : ℕ) → put-decimal-lts.Need-add-out-6 (claims t) (put-decimal-at t) put-decimal.Post
 put-decimal-add-out-6 t c =
     let s = c .before .before .before .before .before .before .before in
-    let q = last-digits (s .args .n) (s .args .out .now) (s .pre .1) (c .before .before .before .before .if2 .left) (s .fits .n .fits) _ _ (c .before .before .put-decimal .ensures) in
+    let q = last-digits (s .args .n) (s .args .out .now) (s .pre .1) (c .before .before .before .before .if2 .left)
+    (s .fits .n .fits) _ _ (c .before .before .put-decimal .ensures) in
     omega (arith, room q, q .wrote .long, s .good)
 
 put-decimal-slice-write-out-5 : (t : ℕ) → put-decimal-lts.Need-slice-write-out-5 (claims t) (put-decimal-at t) put-decimal.Post
 put-decimal-slice-write-out-5 t c =
     let s = c .before .before .before .before .before .before .before in
-    let q = last-digits (s .args .n) (s .args .out .now) (s .pre .1) (c .before .before .before .before .if2 .left) (s .fits .n .fits) _ _ (c .before .before .put-decimal .ensures) in
+    let q = last-digits (s .args .n) (s .args .out .now) (s .pre .1) (c .before .before .before .before .if2 .left)
+    (s .fits .n .fits) _ _ (c .before .before .put-decimal .ensures) in
     omega (arith, room (next-byte q))
 
 put-decimal-add-result : (t : ℕ) → put-decimal-lts.Need-add-result (claims t) (put-decimal-at t) put-decimal.Post
 put-decimal-add-result t c =
     let s = c .before .before .before .before .before .before .before in
-    let q = last-digits (s .args .n) (s .args .out .now) (s .pre .1) (c .before .before .before .before .if2 .left) (s .fits .n .fits) _ _ (c .before .before .put-decimal .ensures) in
+    let q = last-digits (s .args .n) (s .args .out .now) (s .pre .1) (c .before .before .before .before .if2 .left)
+    (s .fits .n .fits) _ _ (c .before .before .put-decimal .ensures) in
     omega (arith, room (next-byte q), next-byte q .wrote .long, s .good)
 
 put-decimal-same-length-3 : (t : ℕ) → put-decimal-lts.Need-same-length-3 (claims t) (put-decimal-at t) put-decimal.Post
 put-decimal-same-length-3 t c =
     let s = c .before .before .before .before .before .before .before in
-    let q = last-digits (s .args .n) (s .args .out .now) (s .pre .1) (c .before .before .before .before .if2 .left) (s .fits .n .fits) _ _ (c .before .before .put-decimal .ensures) in
+    let q = last-digits (s .args .n) (s .args .out .now) (s .pre .1) (c .before .before .before .before .if2 .left)
+    (s .fits .n .fits) _ _ (c .before .before .put-decimal .ensures) in
     next-byte (next-byte q) .wrote .long
 
 put-decimal-returns-3 : (t : ℕ) → put-decimal-lts.Need-returns-3 (claims t) (put-decimal-at t) put-decimal.Post
 put-decimal-returns-3 t c =
     let s = c .before .before .before .before .before .before .before in
-    let q = last-digits (s .args .n) (s .args .out .now) (s .pre .1) (c .before .before .before .before .if2 .left) (s .fits .n .fits) _ _ (c .before .before .put-decimal .ensures) in
+    let q = last-digits (s .args .n) (s .args .out .now) (s .pre .1) (c .before .before .before .before .if2 .left)
+    (s .fits .n .fits) _ _ (c .before .before .put-decimal .ensures) in
     let e = ends (next-byte (next-byte q)) in
     (omega (arith, e .0), e .1)
 

@@ -17,14 +17,16 @@ slice-write-out : tie.Need-slice-write-out
 unfolding ended
 slice-write-out c =
     let s = c .before .before .before .before .before in
-    let q = first (decimal (s .args .n)) ((s .args .end ∷ []) ∷ []) (s .args .out .now) (s .pre) _ _ (c .before .before .put-decimal .ensures) in
+    let q = first (decimal (s .args .n)) ((s .args .end ∷ []) ∷ []) (s .args .out .now)
+    (s .pre) _ _ (c .before .before .put-decimal .ensures) in
     omega (arith, room q)
 
 add-result : tie.Need-add-result
 unfolding ended
 add-result c =
     let s = c .before .before .before .before .before in
-    let q = first (decimal (s .args .n)) ((s .args .end ∷ []) ∷ []) (s .args .out .now) (s .pre) _ _ (c .before .before .put-decimal .ensures) in
+    let q = first (decimal (s .args .n)) ((s .args .end ∷ []) ∷ []) (s .args .out .now)
+    (s .pre) _ _ (c .before .before .put-decimal .ensures) in
     omega (arith, room q, q .wrote .long, s .good)
 
 same-length : tie.Need-same-length
@@ -34,7 +36,8 @@ returns : tie.Need-returns
 unfolding ended
 returns c =
     let s = c .before .before .before .before .before in
-    let q = first (decimal (s .args .n)) ((s .args .end ∷ []) ∷ []) (s .args .out .now) (s .pre) _ _ (c .before .before .put-decimal .ensures) in
+    let q = first (decimal (s .args .n)) ((s .args .end ∷ []) ∷ []) (s .args .out .now)
+    (s .pre) _ _ (c .before .before .put-decimal .ensures) in
     ends (next-byte q)
 
 pub put-ended-spec : {M : Type 1} → statement M

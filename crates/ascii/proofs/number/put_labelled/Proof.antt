@@ -35,7 +35,8 @@ put-decimal-requires c κs =
 add-result : tie.Need-add-result
 add-result c =
     let s = c .before .before .before .before .before .before .before .before .before .before in
-    let q = word-put (s .args .word .now) (s .args .n) (s .args .out .now) (s .pre) (c .before .before .before .before .before .before .copy .ensures) in
+    let q = word-put (s .args .word .now) (s .args .n) (s .args .out .now) (s .pre)
+    (c .before .before .before .before .before .before .copy .ensures) in
     omega (arith, room q, q .wrote .long, c .before .before .put-decimal .ensures .0, s .good)
 
 same-length : tie.Need-same-length
@@ -44,7 +45,8 @@ same-length c = search needs
 returns : tie.Need-returns
 returns c =
     let s = c .before .before .before .before .before .before .before .before .before .before in
-    let q = word-put (s .args .word .now) (s .args .n) (s .args .out .now) (s .pre) (c .before .before .before .before .before .before .copy .ensures) in
+    let q = word-put (s .args .word .now) (s .args .n) (s .args .out .now) (s .pre)
+    (c .before .before .before .before .before .before .copy .ensures) in
     ends (next q _ _ (c .before .before .put-decimal .ensures))
 
 pub put-labelled-spec : {M : Type 1} → statement M

@@ -16,7 +16,8 @@ put-header-requires c κs =
 sub-copy : tie.Need-sub-copy
 sub-copy c =
     let s = c .before .before .before .before .before .before in
-    both-start (header (s .args .code) (s .args .number)) (s .args .part .now) (s .args .out .now) _ [] _ 0 (c .before .before .put-header .ensures .0) (c .before .before .put-header .ensures .1) (s .pre .1)
+    both-start (header (s .args .code) (s .args .number)) (s .args .part .now) (s .args .out .now) _ [] _ 0
+    (c .before .before .put-header .ensures .0) (c .before .before .put-header .ensures .1) (s .pre .1)
 
 part-copy-start : tie.Need-part-copy-start
 part-copy-start c =
@@ -29,7 +30,8 @@ part-copy-end c = search needs
 copy-requires : tie.Need-copy-requires
 copy-requires c κs =
     let s = c .before .before .before .before .before .before .before in
-    both-fits (header (s .args .code) (s .args .number)) (s .args .part .now) (s .args .out .now) _ [] _ 0 (c .before .before .before .put-header .ensures .0) (c .before .before .before .put-header .ensures .1) (s .pre .1)
+    both-fits (header (s .args .code) (s .args .number)) (s .args .part .now) (s .args .out .now) _ [] _ 0
+    (c .before .before .before .put-header .ensures .0) (c .before .before .before .put-header .ensures .1) (s .pre .1)
 
 add-result : tie.Need-add-result
 add-result c =
@@ -44,7 +46,9 @@ returns c =
     let s = c .before .before .before .before .before .before .before .before .before .before in
     let put-header′ = c .before .before .before .before .before .before .put-header in
     let copy′ = c .before .before .copy in
-    finish-all (both-wrote (header (s .args .code) (s .args .number)) (s .args .part .now) (s .args .out .now) _ _ _ _ (put-header′ .ensures .0) (put-header′ .ensures .1) (s .pre .1) (copy′ .ensures .0) (copy′ .ensures .1)) (omega (arith, s .pre .1, length-append (header (s .args .code) (s .args .number)) (s .args .part .now), put-header′ .ensures .0, copy′ .ensures .0))
+    finish-all (both-wrote (header (s .args .code) (s .args .number)) (s .args .part .now) (s .args .out .now) _ _ _ _
+    (put-header′ .ensures .0) (put-header′ .ensures .1) (s .pre .1) (copy′ .ensures .0) (copy′ .ensures .1))
+    (omega (arith, s .pre .1, length-append (header (s .args .code) (s .args .number)) (s .args .part .now), put-header′ .ensures .0, copy′ .ensures .0))
 
 pub put-sized-spec : {M : Type 1} → statement M
 put-sized-spec =

@@ -63,7 +63,8 @@ same-length c =
     let back′ = back .before .before .before .before .before in
     let args′ = back′ .before .before .args in
     let a = args′ in
-    wrote (a .bundle .now) (a .out .now) _ (put-number′ .ensures .1) (omega arith) _ _ (c .before .before .copy .ensures .0) (c .before .before .copy .ensures .1) .long
+    wrote (a .bundle .now) (a .out .now) _ (put-number′ .ensures .1) (omega arith) _ _
+    (c .before .before .copy .ensures .0) (c .before .before .copy .ensures .1) .long
 
 returns-3 : tie.Need-returns-3
 returns-3 c =
@@ -72,7 +73,8 @@ returns-3 c =
     let back′ = back .before .before .before .before .before in
     let args′ = back′ .before .before .args in
     let a = args′ in
-    closes (a .bundle .now) (a .out .now) _ (put-number′ .ensures .1) (omega arith) _ _ (c .before .before .copy .ensures .0) (c .before .before .copy .ensures .1) (omega arith)
+    closes (a .bundle .now) (a .out .now) _ (put-number′ .ensures .1) (omega arith) _ _
+    (c .before .before .copy .ensures .0) (c .before .before .copy .ensures .1) (omega arith)
 
 pub close-spec : {M : Type 1} → statement M
 close-spec =

@@ -46,7 +46,8 @@ fail-requires-5 : tie.Need-fail-requires-5
 fail-requires-5 c κs = search needs
 
 returns-5 : tie.Need-returns-5
-returns-5 c = c .fail5 .ensures ∙ fails _ _ (other-version _ (omega arith) (omega arith) (omega arith) (omega arith) (λ e. absurd (omega (arith, e))))
+returns-5 c = c .fail5 .ensures
+    ∙ fails _ _ (other-version _ (omega arith) (omega arith) (omega arith) (omega arith) (λ e. absurd (omega (arith, e))))
 
 sub-t3 : tie.Need-sub-t3
 sub-t3 c = search needs
@@ -54,7 +55,8 @@ sub-t3 c = search needs
 returns-6 : tie.Need-returns-6
 returns-6 c =
     let length-field′ = c .before .before .before .before .before .length-field in
-    rw (length-field′ .ensures) (counted-length _ _ (omega arith) (opened _ (omega arith) (omega arith) (omega arith) (omega arith) (omega arith)))
+    rw (length-field′ .ensures)
+    (counted-length _ _ (omega arith) (opened _ (omega arith) (omega arith) (omega arith) (omega arith) (omega arith)))
 
 pub bundle-len-spec : {M : Type 1} → statement M
 bundle-len-spec =

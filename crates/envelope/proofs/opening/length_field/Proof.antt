@@ -23,7 +23,9 @@ add-result : tie.Need-add-result
 add-result c = search needs
 
 returns : tie.Need-returns
-returns c = rw (c .before .before .wide .ensures .0, c .wide2 .ensures .0) (length-field (c .before .before .before .before .before .args .bytes .now) (c .before .before .before .before .before .pre))
+returns c = rw (c .before .before .wide .ensures .0, c .wide2 .ensures .0)
+    (length-field (c .before .before .before .before .before .args .bytes .now)
+    (c .before .before .before .before .before .pre))
 
 pub length-field-spec : {M : Type 1} → statement M
 length-field-spec =

@@ -7,7 +7,8 @@ use Rattle.items.proofs.item.any_name.Statement.{statement}
 use Rattle.items.proofs.item.any_name.Tie as tie
 
 returns : tie.Need-returns
-returns c = λ s links l f. plain-full s (c .before .args .entries .now) _ _ _ _ (c .before .pre .0) (c .before .pre .1) (c .before .pre .2) (c .before .pre .3) (f .size) links (omega arith) refl
+returns c = λ s links l f. plain-full s (c .before .args .entries .now) _ _ _ _ (c .before .pre .0) (c .before .pre .1)
+    (c .before .pre .2) (c .before .pre .3) (f .size) links (omega arith) refl
 
 sub-plain-entry : tie.Need-sub-plain-entry
 sub-plain-entry c = search needs
@@ -27,7 +28,8 @@ fresh-requires c κs = search needs
 returns-2 : tie.Need-returns-2
 returns-2 c =
     let outer = c .before .before .before in
-    λ s links l f. plain-entered s (outer .args .entries .now) _ _ _ _ (outer .pre .0) (outer .pre .1) (outer .pre .2) (outer .pre .3) (f .size) links (c .before .plain-entry .ensures) (omega arith) (c .fresh .ensures)
+    λ s links l f. plain-entered s (outer .args .entries .now) _ _ _ _ (outer .pre .0) (outer .pre .1) (outer .pre .2)
+    (outer .pre .3) (f .size) links (c .before .plain-entry .ensures) (omega arith) (c .fresh .ensures)
 
 pub any-name-spec : {M : Type 1} → statement M
 any-name-spec =

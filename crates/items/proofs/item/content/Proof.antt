@@ -14,8 +14,11 @@ sub-if1 c = search needs
 
 returns : tie.Need-returns
 returns c =
-    let s = c .before .before .before in
-    (λ strict es links at names depth m. tt, λ es o a at names keyed cs. content-cut cs _ (c .before .of .ensures) _ (s .pre .0 .form) (s .pre .0 .plain) (body-key (s .args .s .now) (s .args .next) _ keyed (s .pre .0)) (c .if1 .taken))
+    let s = c .before .before .before in (
+      λ strict es links at names depth m. tt,
+      λ es o a at names keyed cs. content-cut cs _ (c .before .of .ensures) _
+          (s .pre .0 .form) (s .pre .0 .plain) (body-key (s .args .s .now) (s .args .next) _ keyed (s .pre .0)) (c .if1 .taken),
+    )
 
 add-e : tie.Need-add-e
 add-e c = search needs
@@ -35,14 +38,28 @@ bad-text-requires c κs = search needs
 returns-2 : tie.Need-returns-2
 returns-2 c =
     let s = c .before .before .before .before .before .before .before in
-    let of′ = c .before .before .before .before .before .of in
-    (λ strict es links at names depth m. tt, λ es o a at names keyed cs. content-text cs _ (of′ .ensures) _ (s .pre .0 .form) (s .pre .0 .plain) (body-key (s .args .s .now) (s .args .next) _ keyed (s .pre .0)) (c .before .before .before .before .if1 .left) (body-text (s .args .s .now) (s .args .next) _ (s .pre .0) (c .before .bad-text .ensures) ∙ c .if2 .taken))
+    let of′ = c .before .before .before .before .before .of in (
+      λ strict es links at names depth m. tt,
+      λ es o a at names keyed cs. content-text cs _ (of′ .ensures) _
+          (s .pre .0 .form) (s .pre .0 .plain) (body-key (s .args .s .now) (s .args .next) _ keyed (s .pre .0))
+          (c .before .before .before .before .if1 .left) (body-text (s .args .s .now) (s .args .next) _ (s .pre .0)
+          (c .before .bad-text .ensures) ∙ c .if2 .taken),
+    )
 
 returns-3 : tie.Need-returns-3
 returns-3 c =
     let s = c .before .before .before .before .before .before .before in
-    let of′ = c .before .before .before .before .before .of in
-    (λ strict es links at names depth m. record { on = omega (arith, m .on); within = omega arith; fair = m .fair }, λ es o a at names keyed cs. content-value cs _ (of′ .ensures) _ (s .pre .0 .form) (s .pre .0 .plain) (body-key (s .args .s .now) (s .args .next) _ keyed (s .pre .0)) (c .before .before .before .before .if1 .left) (body-text (s .args .s .now) (s .args .next) _ (s .pre .0) (c .before .bad-text .ensures) ∙ c .if2 .left) (s .pre .0 .low))
+    let of′ = c .before .before .before .before .before .of in (
+      λ strict es links at names depth m. record {
+        on = omega (arith, m .on);
+        within = omega arith;
+        fair = m .fair;
+      },
+      λ es o a at names keyed cs. content-value cs _ (of′ .ensures) _ (s .pre .0 .form) (s .pre .0 .plain)
+          (body-key (s .args .s .now) (s .args .next) _ keyed (s .pre .0)) (c .before .before .before .before .if1 .left)
+          (body-text (s .args .s .now) (s .args .next) _ (s .pre .0) (c .before .bad-text .ensures) ∙ c .if2 .left)
+          (s .pre .0 .low),
+    )
 
 pub content-spec : {M : Type 1} → statement M
 content-spec =

@@ -11,7 +11,8 @@ use Rattle.items.proofs.item.judge.Statement.{statement}
 use Rattle.items.proofs.item.judge.Tie as tie
 
 wasteful-requires : tie.Need-wasteful-requires
-wasteful-requires c κs = one-byte (c .before .args .s .now) (c .before .args .at) _ (λ i. omega (arith, c .shared-slice-known .given i)) (c .before .pre .0)
+wasteful-requires c κs = one-byte (c .before .args .s .now) (c .before .args .at) _
+    (λ i. omega (arith, c .shared-slice-known .given i)) (c .before .pre .0)
 
 returns : tie.Need-returns
 returns c = (tt, λ o x so hold d. waste o x _ _ so (sym (c .before .wasteful .ensures) ∙ c .if1 .taken))
@@ -20,7 +21,8 @@ add-next : tie.Need-add-next
 add-next c =
     let p = c .before .before .before .before .pre in
     let a = c .before .before .before .before .args in
-    let st = standing (a .s .now) (a .at) (a .h) (p .1) (λ i. omega (arith, c .before .before .before .shared-slice-known .given i)) (p .0) in
+    let st = standing (a .s .now) (a .at) (a .h) (p .1)
+    (λ i. omega (arith, c .before .before .before .shared-slice-known .given i)) (p .0) in
     omega (arith, st .inside, p .2)
 
 is-integer-requires : tie.Need-is-integer-requires
@@ -30,8 +32,13 @@ returns-2 : tie.Need-returns-2
 returns-2 c =
     let p = c .before .before .before .before .before .before .pre in
     let a = c .before .before .before .before .before .before .args in
-    let st = standing (a .s .now) (a .at) (a .h) (p .1) (λ i. omega (arith, c .before .before .before .before .before .shared-slice-known .given i)) (p .0) in
-    (past-header st (p .3), λ o x so hold d. fixed-value _ (case so (sym (c .before .before .before .before .wasteful .ensures) ∙ c .before .before .before .if1 .left) hold) (plain-integer _ (sym (c .before .is-integer .ensures) ∙ c .if2 .taken)))
+    let st = standing (a .s .now) (a .at) (a .h) (p .1)
+    (λ i. omega (arith, c .before .before .before .before .before .shared-slice-known .given i)) (p .0) in (
+      past-header st (p .3),
+      λ o x so hold d. fixed-value _
+          (case so (sym (c .before .before .before .before .wasteful .ensures) ∙ c .before .before .before .if1 .left)
+          hold) (plain-integer _ (sym (c .before .is-integer .ensures) ∙ c .if2 .taken)),
+    )
 
 reference-requires : tie.Need-reference-requires
 reference-requires c κs = search needs
@@ -44,14 +51,18 @@ returns-3 c =
     let if1′ = c .before .before .before .before .before .before .if1 in
     let p = s .pre in
     let a = s .args in
-    let st = standing (a .s .now) (a .at) (a .h) (p .1) (λ i. omega (arith, shared-slice-known′ .given i)) (p .0) in
-    (c .reference .ensures .0 (a .strict) (a .s .now) (a .links .now) (a .at) (a .depth) (past-header st (p .3)), λ o x so hold d. c .reference .ensures .1 (a .s .now) o x _ (a .at) (case so (sym (wasteful′ .ensures) ∙ if1′ .left) hold))
+    let st = standing (a .s .now) (a .at) (a .h) (p .1) (λ i. omega (arith, shared-slice-known′ .given i)) (p .0) in (
+      c .reference .ensures .0 (a .strict) (a .s .now) (a .links .now) (a .at) (a .depth) (past-header st (p .3)),
+      λ o x so hold d. c .reference .ensures .1 (a .s .now) o x _ (a .at)
+          (case so (sym (wasteful′ .ensures) ∙ if1′ .left) hold),
+    )
 
 name-requires : tie.Need-name-requires
 name-requires c κs =
     let p = c .before .before .before .before .before .before .before .before .before .before .pre in
     let a = c .before .before .before .before .before .before .before .before .before .before .args in
-    let st = standing (a .s .now) (a .at) (a .h) (p .1) (λ i. omega (arith, c .before .before .before .before .before .before .before .before .before .shared-slice-known .given i)) (p .0) in
+    let st = standing (a .s .now) (a .at) (a .h) (p .1)
+    (λ i. omega (arith, c .before .before .before .before .before .before .before .before .before .shared-slice-known .given i)) (p .0) in
     (name-of _ (c .before .before .if4 .taken) (omega (arith, c .before .before .before .if3 .left, st .codes)), st .inside, p .2, p .3)
 
 returns-4 : tie.Need-returns-4
@@ -62,14 +73,17 @@ returns-4 c =
     let if1′ = c .before .before .before .before .before .before .before .before .if1 in
     let p = s .pre in
     let a = s .args in
-    let st = standing (a .s .now) (a .at) (a .h) (p .1) (λ i. omega (arith, shared-slice-known′ .given i)) (p .0) in
-    (c .name .ensures .0 (a .at) (a .depth) (omega (arith, st .some)), λ o x so hold d. c .name .ensures .1 o x (a .at) so (case so (sym (wasteful′ .ensures) ∙ if1′ .left) hold))
+    let st = standing (a .s .now) (a .at) (a .h) (p .1) (λ i. omega (arith, shared-slice-known′ .given i)) (p .0) in (
+      c .name .ensures .0 (a .at) (a .depth) (omega (arith, st .some)),
+      λ o x so hold d. c .name .ensures .1 o x (a .at) so (case so (sym (wasteful′ .ensures) ∙ if1′ .left) hold),
+    )
 
 content-requires : tie.Need-content-requires
 content-requires c κs =
     let p = c .before .before .before .before .before .before .before .before .before .pre in
     let a = c .before .before .before .before .before .before .before .before .before .args in
-    let st = standing (a .s .now) (a .at) (a .h) (p .1) (λ i. omega (arith, c .before .before .before .before .before .before .before .before .shared-slice-known .given i)) (p .0) in
+    let st = standing (a .s .now) (a .at) (a .h) (p .1)
+    (λ i. omega (arith, c .before .before .before .before .before .before .before .before .shared-slice-known .given i)) (p .0) in
     (body-string _ (c .if5 .taken), st .inside, p .2)
 
 returns-5 : tie.Need-returns-5
@@ -80,8 +94,12 @@ returns-5 c =
     let if1′ = c .before .before .before .before .before .before .before .if1 in
     let p = s .pre in
     let a = s .args in
-    let st = standing (a .s .now) (a .at) (a .h) (p .1) (λ i. omega (arith, shared-slice-known′ .given i)) (p .0) in
-    (c .content .ensures .0 (a .strict) (a .entries .now) (a .links .now) (a .at) (a .names) (a .depth) (past-header st (p .3)), λ o x so hold d. c .content .ensures .1 (a .entries .now) o x (a .at) (a .names) (a .keyed) (case so (sym (wasteful′ .ensures) ∙ if1′ .left) hold))
+    let st = standing (a .s .now) (a .at) (a .h) (p .1) (λ i. omega (arith, shared-slice-known′ .given i)) (p .0) in (
+      c .content .ensures .0 (a .strict) (a .entries .now) (a .links .now) (a .at) (a .names) (a .depth)
+          (past-header st (p .3)),
+      λ o x so hold d. c .content .ensures .1 (a .entries .now) o x (a .at) (a .names)
+          (a .keyed) (case so (sym (wasteful′ .ensures) ∙ if1′ .left) hold),
+    )
 
 container-requires : tie.Need-container-requires
 container-requires c κs = search needs
@@ -94,8 +112,12 @@ returns-6 c =
     let if1′ = c .before .before .before .before .before .before .before .before .if1 in
     let p = s .pre in
     let a = s .args in
-    let st = standing (a .s .now) (a .at) (a .h) (p .1) (λ i. omega (arith, shared-slice-known′ .given i)) (p .0) in
-    (c .container .ensures .0 (a .strict) (a .s .now) (a .entries .now) (a .links .now) (a .at) (a .names) (past-header st (p .3)), λ o x so hold d. c .container .ensures .1 (a .s .now) (a .entries .now) o x _ (a .at) (a .names) (a .keyed) (case so (sym (wasteful′ .ensures) ∙ if1′ .left) hold) d)
+    let st = standing (a .s .now) (a .at) (a .h) (p .1) (λ i. omega (arith, shared-slice-known′ .given i)) (p .0) in (
+      c .container .ensures .0 (a .strict) (a .s .now) (a .entries .now) (a .links .now) (a .at) (a .names)
+          (past-header st (p .3)),
+      λ o x so hold d. c .container .ensures .1 (a .s .now) (a .entries .now) o x _ (a .at)
+          (a .names) (a .keyed) (case so (sym (wasteful′ .ensures) ∙ if1′ .left) hold) d,
+    )
 
 returns-7 : tie.Need-returns-7
 returns-7 c =
@@ -107,8 +129,13 @@ returns-7 c =
     let if2′ = c .before .before .before .before .before .if2 in
     let p = s .pre in
     let a = s .args in
-    let st = standing (a .s .now) (a .at) (a .h) (p .1) (λ i. omega (arith, shared-slice-known′ .given i)) (p .0) in
-    (past-header st (p .3), λ o x so hold d. fixed-value _ (case so (sym (wasteful′ .ensures) ∙ if1′ .left) hold) (plain-small _ (is-zero _ (sym (is-integer′ .ensures) ∙ if2′ .left) (omega (arith, c .before .before .before .if4 .left, c .before .before .if5 .left, c .before .if6 .left))) (c .if7 .taken)))
+    let st = standing (a .s .now) (a .at) (a .h) (p .1) (λ i. omega (arith, shared-slice-known′ .given i)) (p .0) in (
+      past-header st (p .3),
+      λ o x so hold d. fixed-value _ (case so (sym (wasteful′ .ensures) ∙ if1′ .left) hold)
+          (plain-small _ (is-zero _ (sym (is-integer′ .ensures) ∙ if2′ .left)
+          (omega (arith, c .before .before .before .if4 .left, c .before .before .if5 .left, c .before .if6 .left)))
+          (c .if7 .taken)),
+    )
 
 content-requires-2 : tie.Need-content-requires-2
 content-requires-2 c κs =
@@ -118,8 +145,13 @@ content-requires-2 c κs =
     let if2′ = c .before .before .before .before .before .if2 in
     let p = s .pre in
     let a = s .args in
-    let st = standing (a .s .now) (a .at) (a .h) (p .1) (λ i. omega (arith, shared-slice-known′ .given i)) (p .0) in
-    (body-bytes _ (is-zero _ (sym (is-integer′ .ensures) ∙ if2′ .left) (omega (arith, c .before .before .before .if4 .left, c .before .before .if5 .left, c .before .if6 .left))) (c .if7 .left), st .inside, p .2)
+    let st = standing (a .s .now) (a .at) (a .h) (p .1) (λ i. omega (arith, shared-slice-known′ .given i)) (p .0) in (
+      body-bytes _ (is-zero _ (sym (is-integer′ .ensures) ∙ if2′ .left)
+          (omega (arith, c .before .before .before .if4 .left, c .before .before .if5 .left, c .before .if6 .left)))
+          (c .if7 .left),
+      st .inside,
+      p .2,
+    )
 
 returns-8 : tie.Need-returns-8
 returns-8 c =
@@ -129,8 +161,12 @@ returns-8 c =
     let if1′ = c .before .before .before .before .before .before .before .before .before .if1 in
     let p = s .pre in
     let a = s .args in
-    let st = standing (a .s .now) (a .at) (a .h) (p .1) (λ i. omega (arith, shared-slice-known′ .given i)) (p .0) in
-    (c .content2 .ensures .0 (a .strict) (a .entries .now) (a .links .now) (a .at) (a .names) (a .depth) (past-header st (p .3)), λ o x so hold d. c .content2 .ensures .1 (a .entries .now) o x (a .at) (a .names) (a .keyed) (case so (sym (wasteful′ .ensures) ∙ if1′ .left) hold))
+    let st = standing (a .s .now) (a .at) (a .h) (p .1) (λ i. omega (arith, shared-slice-known′ .given i)) (p .0) in (
+      c .content2 .ensures .0 (a .strict) (a .entries .now) (a .links .now) (a .at) (a .names) (a .depth)
+          (past-header st (p .3)),
+      λ o x so hold d. c .content2 .ensures .1 (a .entries .now) o x (a .at) (a .names)
+          (a .keyed) (case so (sym (wasteful′ .ensures) ∙ if1′ .left) hold),
+    )
 
 pub judge-spec : {M : Type 1} → statement M
 judge-spec =

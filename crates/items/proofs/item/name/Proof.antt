@@ -16,8 +16,11 @@ key-after-key-requires c κs = search needs
 returns : tie.Need-returns
 unfolding isKey
 returns c =
-    let k = rw (c .before .before .kind-of .ensures) at (c .before .key-after-key .ensures) in
-    (λ at depth l. tt, λ o a at so cs. content-again cs _ refl _ (c .before .before .before .before .pre .0 .form) (name-plain (c .before .before .before .before .pre .0)) (sym k ∙ c .if1 .taken))
+    let k = rw (c .before .before .kind-of .ensures) at (c .before .key-after-key .ensures) in (
+      λ at depth l. tt,
+      λ o a at so cs. content-again cs _ refl _ (c .before .before .before .before .pre .0 .form)
+          (name-plain (c .before .before .before .before .pre .0)) (sym k ∙ c .if1 .taken),
+    )
 
 of-requires : tie.Need-of-requires
 of-requires c κs = search needs
@@ -29,8 +32,11 @@ returns-2 : tie.Need-returns-2
 unfolding isKey
 returns-2 c =
     let s = c .before .before .before .before .before .before in
-    let k = rw (c .before .before .before .before .kind-of .ensures) at (c .before .before .before .key-after-key .ensures) in
-    (λ at depth l. tt, λ o a at so cs. content-cut cs _ (c .before .of .ensures) _ (s .pre .0 .form) (name-plain (s .pre .0)) (sym k ∙ c .before .before .if1 .left) (c .if2 .taken))
+    let k = rw (c .before .before .before .before .kind-of .ensures) at (c .before .before .before .key-after-key .ensures) in (
+      λ at depth l. tt,
+      λ o a at so cs. content-cut cs _ (c .before .of .ensures) _ (s .pre .0 .form)
+          (name-plain (s .pre .0)) (sym k ∙ c .before .before .if1 .left) (c .if2 .taken),
+    )
 
 add-e : tie.Need-add-e
 add-e c = search needs
@@ -51,9 +57,14 @@ returns-3 : tie.Need-returns-3
 unfolding isKey
 returns-3 c =
     let s = c .before .before .before .before .before .before .before .before .before in
-    let k = rw (c .before .before .before .before .before .before .before .kind-of .ensures) at (c .before .before .before .before .before .before .key-after-key .ensures) in
-    let if1′ = c .before .before .before .before .before .if1 in
-    (λ at depth l. tt, λ o a at so cs. content-text cs _ (c .before .before .before .before .of .ensures) _ (s .pre .0 .form) (name-plain (s .pre .0)) (sym k ∙ if1′ .left) (c .before .before .before .if2 .left) (name-text (s .args .s .now) (s .args .next) _ (s .pre .0) (c .before .is-utf8-name .ensures) ∙ c .if3 .taken))
+    let k = rw (c .before .before .before .before .before .before .before .kind-of .ensures)
+    at (c .before .before .before .before .before .before .key-after-key .ensures) in
+    let if1′ = c .before .before .before .before .before .if1 in (
+      λ at depth l. tt,
+      λ o a at so cs. content-text cs _ (c .before .before .before .before .of .ensures) _
+          (s .pre .0 .form) (name-plain (s .pre .0)) (sym k ∙ if1′ .left) (c .before .before .before .if2 .left)
+          (name-text (s .args .s .now) (s .args .next) _ (s .pre .0) (c .before .is-utf8-name .ensures) ∙ c .if3 .taken),
+    )
 
 new-name-requires : tie.Need-new-name-requires
 new-name-requires c κs =
@@ -69,8 +80,12 @@ returns-4 c =
     let if1′ = c .before .before .before .before .before .before .before .before .before .if1 in
     let if2′ = c .before .before .before .before .before .before .before .if2 in
     let is-utf8-name′ = c .before .before .before .before .before .is-utf8-name in
-    let entered = rw (c .before .before .before .before .before .before .before .before .before .before .before .kind-of .ensures) at (c .new-name .ensures) in
-    (λ at depth l. name-moves (if4′ .taken) at depth (omega arith) (omega arith) entered, λ o a at so cs. name-judged (s .pre .0) (so ∙ if4′ .taken) cs _ (of′ .ensures) (s .pre .3 .size) (s .pre .3 .few) (sym k ∙ if1′ .left) (if2′ .left) (name-text (s .args .s .now) (s .args .next) _ (s .pre .0) (is-utf8-name′ .ensures) ∙ c .before .before .before .before .if3 .left) entered)
+    let entered = rw (c .before .before .before .before .before .before .before .before .before .before .before .kind-of .ensures) at (c .new-name .ensures) in (
+      λ at depth l. name-moves (if4′ .taken) at depth (omega arith) (omega arith) entered,
+      λ o a at so cs. name-judged (s .pre .0) (so ∙ if4′ .taken) cs _ (of′ .ensures) (s .pre .3 .size)
+          (s .pre .3 .few) (sym k ∙ if1′ .left) (if2′ .left) (name-text (s .args .s .now) (s .args .next) _ (s .pre .0)
+          (is-utf8-name′ .ensures) ∙ c .before .before .before .before .if3 .left) entered,
+    )
 
 any-name-requires : tie.Need-any-name-requires
 any-name-requires c κs =
@@ -81,11 +96,17 @@ returns-5 : tie.Need-returns-5
 returns-5 c =
     let s = c .before .before .before .before .before .before .before .before .before .before .before .before in
     let of′ = c .before .before .before .before .before .before .before .of in
-    let k = rw (c .before .before .before .before .before .before .before .before .before .before .kind-of .ensures) at (c .before .before .before .before .before .before .before .before .before .key-after-key .ensures) in
+    let k = rw (c .before .before .before .before .before .before .before .before .before .before .kind-of .ensures)
+    at (c .before .before .before .before .before .before .before .before .before .key-after-key .ensures) in
     let if1′ = c .before .before .before .before .before .before .before .before .if1 in
     let if2′ = c .before .before .before .before .before .before .if2 in
-    let entered = rw (c .before .before .before .before .before .before .before .before .before .before .kind-of .ensures) at (c .any-name .ensures (s .args .s .now) (s .args .links .now) (omega arith) (fair-plain (s .pre .3))) in
-    (λ at depth l. name-moves (c .before .before .if4 .left) at depth (omega arith) (omega arith) entered, λ o a at so cs. name-judged (s .pre .0) (so ∙ c .before .before .if4 .left) cs _ (of′ .ensures) (s .pre .3 .size) (s .pre .3 .few) (sym k ∙ if1′ .left) (if2′ .left) (name-text (s .args .s .now) (s .args .next) _ (s .pre .0) (c .before .before .before .before .is-utf8-name .ensures) ∙ c .before .before .before .if3 .left) entered)
+    let entered = rw (c .before .before .before .before .before .before .before .before .before .before .kind-of .ensures) at (c .any-name .ensures (s .args .s .now) (s .args .links .now) (omega arith) (fair-plain (s .pre .3))) in (
+      λ at depth l. name-moves (c .before .before .if4 .left) at depth (omega arith) (omega arith) entered,
+      λ o a at so cs. name-judged (s .pre .0) (so ∙ c .before .before .if4 .left) cs _ (of′ .ensures)
+          (s .pre .3 .size) (s .pre .3 .few) (sym k ∙ if1′ .left) (if2′ .left)
+          (name-text (s .args .s .now) (s .args .next) _ (s .pre .0)
+          (c .before .before .before .before .is-utf8-name .ensures) ∙ c .before .before .before .if3 .left) entered,
+    )
 
 pub name-spec : {M : Type 1} → statement M
 name-spec =

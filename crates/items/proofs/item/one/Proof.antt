@@ -26,8 +26,11 @@ returns c = (tt, λ o a so hold d. cut o a _ (rw (c .enum-told .given .1) at (c 
 returns-2 : tie.Need-returns-2
 returns-2 c =
     let s = c .before .before .before .before .before .before .before .before in
-    let header-at′ = c .before .before .before .before .before .before .header-at in
-    (c .judge .ensures .0, λ o a so hold d. judged-item (s .args .s .now) _ (s .args .names) o a _ (c .judge .result) (rw (c .before .before .before .before .h .given .1) at (header-at′ .ensures)) (c .judge .ensures .1 o a so hold d))
+    let header-at′ = c .before .before .before .before .before .before .header-at in (
+      c .judge .ensures .0,
+      λ o a so hold d. judged-item (s .args .s .now) _ (s .args .names) o a _ (c .judge .result)
+          (rw (c .before .before .before .before .h .given .1) at (header-at′ .ensures)) (c .judge .ensures .1 o a so hold d),
+    )
 
 pub one-spec : {M : Type 1} → statement M
 one-spec =

@@ -8,7 +8,11 @@ use Rattle.items.proofs.item.reference.Statement.{statement}
 use Rattle.items.proofs.item.reference.Tie as tie
 
 returns : tie.Need-returns
-returns c = (λ strict s links at depth m. tt, λ s o a bs at cs. reference-missing bs cs (c .before .pre .0) (c .before .pre .2) (c .before .pre .1) (omega arith))
+returns c = (
+  λ strict s links at depth m. tt,
+  λ s o a bs at cs. reference-missing bs cs (c .before .pre .0) (c .before .pre .2)
+      (c .before .pre .1) (omega arith),
+)
 
 mul-is-key : tie.Need-mul-is-key
 mul-is-key c = search needs

@@ -23,11 +23,19 @@ returns-3 c = rw (not-false (c .before .before .before .before .args .strict) (c
 
 returns-4 : tie.Need-returns-4
 unfolding isNegativeAlias
-returns-4 c = rw (not-false (c .before .before .before .before .before .args .strict) (c .before .before .before .if2 .left), sym (c .before .before .is-long .ensures) ∙ c .before .if3 .left, eqb-yes (c .if4 .taken))
+returns-4 c = rw (
+  not-false (c .before .before .before .before .before .args .strict) (c .before .before .before .if2 .left),
+  sym (c .before .before .is-long .ensures) ∙ c .before .if3 .left,
+  eqb-yes (c .if4 .taken),
+)
 
 returns-5 : tie.Need-returns-5
 unfolding isNegativeAlias
-returns-5 c = rw (not-false (c .before .before .before .before .before .args .strict) (c .before .before .before .if2 .left), sym (c .before .before .is-long .ensures) ∙ c .before .if3 .left, eqb-no (c .if4 .left))
+returns-5 c = rw (
+  not-false (c .before .before .before .before .before .args .strict) (c .before .before .before .if2 .left),
+  sym (c .before .before .is-long .ensures) ∙ c .before .if3 .left,
+  eqb-no (c .if4 .left),
+)
 
 pub wasteful-spec : {M : Type 1} → statement M
 wasteful-spec = tie.close (tie.spec returns returns-2 is-long-requires returns-3 returns-4 returns-5)

@@ -32,7 +32,8 @@ returns-2 c =
     let args′ = back .before .before .before .before .args in
     let p = pre′ in
     let few = if1′ .left in
-    names-over p few (c .before .before .before .measure-both .ensures _ p few) (args′ .out .now) (c .fail2 .ensures) (c .before .if2 .taken)
+    names-over p few (c .before .before .before .measure-both .ensures _ p few) (args′ .out .now) (c .fail2 .ensures)
+    (c .before .if2 .taken)
 
 is-over-requires : tie.Need-is-over-requires
 is-over-requires c κs = search needs
@@ -50,7 +51,8 @@ returns-3 c =
     let args′ = back′ .before .args in
     let p = pre′ in
     let few = if1′ .left in
-    size-over p few (measure-both′ .ensures _ p few) (args′ .out .now) (c .before .before .before .if2 .left) (c .fail3 .ensures) (sym (c .before .before .is-over .ensures) ∙ c .before .if3 .taken)
+    size-over p few (measure-both′ .ensures _ p few) (args′ .out .now) (c .before .before .before .if2 .left)
+    (c .fail3 .ensures) (sym (c .before .before .is-over .ensures) ∙ c .before .if3 .taken)
 
 put-both-requires : tie.Need-put-both-requires
 put-both-requires c κs =

@@ -40,21 +40,24 @@ put-labelled-requires-2 : tie.Need-put-labelled-requires-2
 unfolding ascii
 put-labelled-requires-2 c κs =
     let s = c .before .before .before .before .before .before .before .before in
-    let p = envelope-put (s .args .k) (s .args .number) (s .args .out .now) (s .pre) (c .before .before .before .before .put-labelled .ensures) in
+    let p = envelope-put (s .args .k) (s .args .number) (s .args .out .now) (s .pre)
+    (c .before .before .before .before .put-labelled .ensures) in
     fits p
 
 add-b : tie.Need-add-b
 unfolding ascii
 add-b c =
     let s = c .before .before .before .before .before .before .before .before .before .before .before in
-    let p = envelope-put (s .args .k) (s .args .number) (s .args .out .now) (s .pre) (c .before .before .before .before .before .before .before .put-labelled .ensures) in
+    let p = envelope-put (s .args .k) (s .args .number) (s .args .out .now) (s .pre)
+    (c .before .before .before .before .before .before .before .put-labelled .ensures) in
     omega (arith, room p, p .wrote .long, c .before .before .put-labelled2 .ensures .0, s .good)
 
 slice-write-out : tie.Need-slice-write-out
 unfolding ascii
 slice-write-out c =
     let s = c .before .before .before .before .before .before .before .before .before .before .before in
-    let p = envelope-put (s .args .k) (s .args .number) (s .args .out .now) (s .pre) (c .before .before .before .before .before .before .before .put-labelled .ensures) in
+    let p = envelope-put (s .args .k) (s .args .number) (s .args .out .now) (s .pre)
+    (c .before .before .before .before .before .before .before .put-labelled .ensures) in
     let q = next p _ _ (c .before .before .put-labelled2 .ensures) in
     omega (arith, room q)
 
@@ -62,7 +65,8 @@ add-result : tie.Need-add-result
 unfolding ascii
 add-result c =
     let s = c .before .before .before .before .before .before .before .before .before .before .before in
-    let p = envelope-put (s .args .k) (s .args .number) (s .args .out .now) (s .pre) (c .before .before .before .before .before .before .before .put-labelled .ensures) in
+    let p = envelope-put (s .args .k) (s .args .number) (s .args .out .now) (s .pre)
+    (c .before .before .before .before .before .before .before .put-labelled .ensures) in
     let q = next p _ _ (c .before .before .put-labelled2 .ensures) in
     omega (arith, room q, q .wrote .long, s .good)
 
@@ -70,7 +74,8 @@ same-length : tie.Need-same-length
 unfolding ascii
 same-length c =
     let s = c .before .before .before .before .before .before .before .before .before .before .before in
-    let p = envelope-put (s .args .k) (s .args .number) (s .args .out .now) (s .pre) (c .before .before .before .before .before .before .before .put-labelled .ensures) in
+    let p = envelope-put (s .args .k) (s .args .number) (s .args .out .now) (s .pre)
+    (c .before .before .before .before .before .before .before .put-labelled .ensures) in
     let q = next p _ _ (c .before .before .put-labelled2 .ensures) in
     next-byte q .wrote .long
 
@@ -78,7 +83,8 @@ returns : tie.Need-returns
 unfolding ascii
 returns c =
     let s = c .before .before .before .before .before .before .before .before .before .before .before in
-    let p = envelope-put (s .args .k) (s .args .number) (s .args .out .now) (s .pre) (c .before .before .before .before .before .before .before .put-labelled .ensures) in
+    let p = envelope-put (s .args .k) (s .args .number) (s .args .out .now) (s .pre)
+    (c .before .before .before .before .before .before .before .put-labelled .ensures) in
     let q = next p _ _ (c .before .before .put-labelled2 .ensures) in
     ends (next-byte q)
 

@@ -38,20 +38,23 @@ put-ended-requires-2 c κs =
 add-b : tie.Need-add-b
 add-b c =
     let s = c .before .before .before .before .before .before .before .before .before .before in
-    let p = index-put (s .args .i) (s .args .row) (s .args .out .now) (s .pre) (c .before .before .before .before .before .before .before .put-ended .ensures) in
+    let p = index-put (s .args .i) (s .args .row) (s .args .out .now) (s .pre)
+    (c .before .before .before .before .before .before .before .put-ended .ensures) in
     omega (arith, room p, p .wrote .long, c .before .before .put-ended2 .ensures .0, s .good)
 
 sub-put-ended-2 : tie.Need-sub-put-ended-2
 sub-put-ended-2 c =
     let s = c .before .before .before .before .before .before .before .before .before .before in
-    let p = index-put (s .args .i) (s .args .row) (s .args .out .now) (s .pre) (c .before .before .before .before .before .before .before .put-ended .ensures) in
+    let p = index-put (s .args .i) (s .args .row) (s .args .out .now) (s .pre)
+    (c .before .before .before .before .before .before .before .put-ended .ensures) in
     let q = next p _ _ (c .before .before .put-ended2 .ensures) in
     omega (arith, room q)
 
 part-put-ended-start-2 : tie.Need-part-put-ended-start-2
 part-put-ended-start-2 c =
     let s = c .before .before .before .before .before .before .before .before .before .before in
-    let p = index-put (s .args .i) (s .args .row) (s .args .out .now) (s .pre) (c .before .before .before .before .before .before .before .put-ended .ensures) in
+    let p = index-put (s .args .i) (s .args .row) (s .args .out .now) (s .pre)
+    (c .before .before .before .before .before .before .before .put-ended .ensures) in
     let q = next p _ _ (c .before .before .put-ended2 .ensures) in
     omega (arith, room q)
 
@@ -61,21 +64,24 @@ part-put-ended-end-2 c = search needs
 put-ended-requires-3 : tie.Need-put-ended-requires-3
 put-ended-requires-3 c κs =
     let s = c .before .before .before .before .before .before .before .before .before .before .before in
-    let p = index-put (s .args .i) (s .args .row) (s .args .out .now) (s .pre) (c .before .before .before .before .before .before .before .before .put-ended .ensures) in
+    let p = index-put (s .args .i) (s .args .row) (s .args .out .now) (s .pre)
+    (c .before .before .before .before .before .before .before .before .put-ended .ensures) in
     let q = next p _ _ (c .before .before .before .put-ended2 .ensures) in
     fits q
 
 add-c : tie.Need-add-c
 add-c c =
     let s = c .before .before .before .before .before .before .before .before .before .before .before .before .before .before in
-    let p = index-put (s .args .i) (s .args .row) (s .args .out .now) (s .pre) (c .before .before .before .before .before .before .before .before .before .before .before .put-ended .ensures) in
+    let p = index-put (s .args .i) (s .args .row) (s .args .out .now) (s .pre)
+    (c .before .before .before .before .before .before .before .before .before .before .before .put-ended .ensures) in
     let q = next p _ _ (c .before .before .before .before .before .before .put-ended2 .ensures) in
     omega (arith, room q, q .wrote .long, c .before .before .put-ended3 .ensures .0, s .good)
 
 sub-put-ended-3 : tie.Need-sub-put-ended-3
 sub-put-ended-3 c =
     let s = c .before .before .before .before .before .before .before .before .before .before .before .before .before .before in
-    let p = index-put (s .args .i) (s .args .row) (s .args .out .now) (s .pre) (c .before .before .before .before .before .before .before .before .before .before .before .put-ended .ensures) in
+    let p = index-put (s .args .i) (s .args .row) (s .args .out .now) (s .pre)
+    (c .before .before .before .before .before .before .before .before .before .before .before .put-ended .ensures) in
     let q = next p _ _ (c .before .before .before .before .before .before .put-ended2 .ensures) in
     let r = next q _ _ (c .before .before .put-ended3 .ensures) in
     omega (arith, room r)
@@ -83,7 +89,8 @@ sub-put-ended-3 c =
 part-put-ended-start-3 : tie.Need-part-put-ended-start-3
 part-put-ended-start-3 c =
     let s = c .before .before .before .before .before .before .before .before .before .before .before .before .before .before in
-    let p = index-put (s .args .i) (s .args .row) (s .args .out .now) (s .pre) (c .before .before .before .before .before .before .before .before .before .before .before .put-ended .ensures) in
+    let p = index-put (s .args .i) (s .args .row) (s .args .out .now) (s .pre)
+    (c .before .before .before .before .before .before .before .before .before .before .before .put-ended .ensures) in
     let q = next p _ _ (c .before .before .before .before .before .before .put-ended2 .ensures) in
     let r = next q _ _ (c .before .before .put-ended3 .ensures) in
     omega (arith, room r)
@@ -94,7 +101,8 @@ part-put-ended-end-3 c = search needs
 put-ended-requires-4 : tie.Need-put-ended-requires-4
 put-ended-requires-4 c κs =
     let s = c .before .before .before .before .before .before .before .before .before .before .before .before .before .before .before in
-    let p = index-put (s .args .i) (s .args .row) (s .args .out .now) (s .pre) (c .before .before .before .before .before .before .before .before .before .before .before .before .put-ended .ensures) in
+    let p = index-put (s .args .i) (s .args .row) (s .args .out .now) (s .pre)
+    (c .before .before .before .before .before .before .before .before .before .before .before .before .put-ended .ensures) in
     let q = next p _ _ (c .before .before .before .before .before .before .before .put-ended2 .ensures) in
     let r = next q _ _ (c .before .before .before .put-ended3 .ensures) in
     fits r
@@ -102,7 +110,8 @@ put-ended-requires-4 c κs =
 add-result : tie.Need-add-result
 add-result c =
     let s = c .before .before .before .before .before .before .before .before .before .before .before .before .before .before .before .before .before .before in
-    let p = index-put (s .args .i) (s .args .row) (s .args .out .now) (s .pre) (c .before .before .before .before .before .before .before .before .before .before .before .before .before .before .before .put-ended .ensures) in
+    let p = index-put (s .args .i) (s .args .row) (s .args .out .now) (s .pre)
+    (c .before .before .before .before .before .before .before .before .before .before .before .before .before .before .before .put-ended .ensures) in
     let q = next p _ _ (c .before .before .before .before .before .before .before .before .before .before .put-ended2 .ensures) in
     let r = next q _ _ (c .before .before .before .before .before .before .put-ended3 .ensures) in
     omega (arith, room r, r .wrote .long, c .before .before .put-ended4 .ensures .0, s .good)
@@ -113,7 +122,8 @@ same-length c = search needs
 returns : tie.Need-returns
 returns c =
     let s = c .before .before .before .before .before .before .before .before .before .before .before .before .before .before .before .before .before .before in
-    let p = index-put (s .args .i) (s .args .row) (s .args .out .now) (s .pre) (c .before .before .before .before .before .before .before .before .before .before .before .before .before .before .before .put-ended .ensures) in
+    let p = index-put (s .args .i) (s .args .row) (s .args .out .now) (s .pre)
+    (c .before .before .before .before .before .before .before .before .before .before .before .before .before .before .before .put-ended .ensures) in
     let q = next p _ _ (c .before .before .before .before .before .before .before .before .before .before .put-ended2 .ensures) in
     let r = next q _ _ (c .before .before .before .before .before .before .put-ended3 .ensures) in
     ends (next r _ _ (c .before .before .put-ended4 .ensures))

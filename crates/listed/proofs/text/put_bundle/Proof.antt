@@ -1,4 +1,5 @@
--- `listed::text::put_bundle` meets its contract. The loop's invariant: of the text the lines from row i on are to come, of the buffer as the first line left it. Assumes nothing.
+-- `listed::text::put_bundle` meets its contract. The loop's invariant: of the text the lines from row i on are to
+-- come, of the buffer as the first line left it. Assumes nothing.
 use mathlib.Core.Path.{subst⁻¹, _∙_}
 use Prim.Native.Nat.{_-_, _≤_, _<_}
 use native.Mathlib.Omega.{arith}
@@ -13,7 +14,8 @@ use Rattle.listed.proofs.text.put_bundle.Statement.{statement}
 use Rattle.listed.proofs.text.put_bundle.Tie as tie
 
 abbrev Inv-loop : tie.InvT-loop
-Inv-loop k bundle out₀ t answer at₀ n i₀ out at i = (i ≤ n) × (at₀ ≤ at) × Stage (text k bundle) out₀ out at (rowLines i (drop i (printed bundle)))
+Inv-loop k bundle out₀ t answer at₀ n i₀ out at i = (i ≤ n)
+    × (at₀ ≤ at) × Stage (text k bundle) out₀ out at (rowLines i (drop i (printed bundle)))
 
 abbrev μ-loop : tie.MeasureT-loop
 μ-loop k bundle out₀ t answer at₀ n i₀ out at i = n - i
@@ -29,7 +31,8 @@ read-requires c κs = search needs
 put-first-requires : tie.Need-put-first-requires Inv-loop μ-loop
 put-first-requires c κs =
     let s = c .before .before .before .before .before in
-    line-fits (s .args .bundle .now) (c .before .read .result) (c .before .read .ensures) (s .args .k) (s .args .out .now) (c .before .before .if1 .left)
+    line-fits (s .args .bundle .now) (c .before .read .result) (c .before .read .ensures) (s .args .k)
+    (s .args .out .now) (c .before .before .if1 .left)
 
 row-count-requires : tie.Need-row-count-requires Inv-loop μ-loop
 row-count-requires c κs = search needs
@@ -39,35 +42,52 @@ loop-holds c =
     let s = c .before .before .before .before .before .before .before .before .before in
     let read′ = c .before .before .before .before .before .read in
     let if1′ = c .before .before .before .before .before .before .if1 in
-    let p = line-put (s .args .bundle .now) (read′ .result) (read′ .ensures) (s .args .k) (s .args .out .now) (if1′ .left) _ _ (c .before .before .before .put-first .ensures) in
+    let p = line-put (s .args .bundle .now) (read′ .result) (read′ .ensures) (s .args .k) (s .args .out .now)
+    (if1′ .left) _ _ (c .before .before .before .put-first .ensures) in
     (omega arith, omega arith, afresh p)
 
 mul-put-row : tie.Need-mul-put-row Inv-loop μ-loop
 mul-put-row c =
     let s = c .before .before .before .before .before .before .before .before .before .before .before in
-    let count = c .before .before .row-count .ensures ∙ row-count (s .args .bundle .now) (c .before .before .before .before .before .before .before .read .result) (c .before .before .before .before .before .before .before .read .ensures) in
+    let count = c .before .before .row-count .ensures
+    ∙ row-count (s .args .bundle .now) (c .before .before .before .before .before .before .before .read .result)
+    (c .before .before .before .before .before .before .before .read .ensures) in
     omega (arith, count, few-rows (s .args .bundle .now), c .loop-test .taken)
 
 element-copy-out-put-row : tie.Need-element-copy-out-put-row Inv-loop μ-loop
 element-copy-out-put-row c =
     let s = c .before .before .before .before .before .before .before .before .before .before .before in
-    let count = c .before .before .row-count .ensures ∙ row-count (s .args .bundle .now) (c .before .before .before .before .before .before .before .read .result) (c .before .before .before .before .before .before .before .read .ensures) in
+    let count = c .before .before .row-count .ensures
+    ∙ row-count (s .args .bundle .now) (c .before .before .before .before .before .before .before .read .result)
+    (c .before .before .before .before .before .before .before .read .ensures) in
     omega (arith, count, few-rows (s .args .bundle .now), c .loop-test .taken)
 
 sub-put-row : tie.Need-sub-put-row Inv-loop μ-loop
 sub-put-row c =
     let s = c .before .before .before .before .before .before .before .before .before .before .before .before in
-    let count = c .before .before .before .row-count .ensures ∙ row-count (s .args .bundle .now) (c .before .before .before .before .before .before .before .before .read .result) (c .before .before .before .before .before .before .before .before .read .ensures) in
+    let count = c .before .before .before .row-count .ensures
+    ∙ row-count (s .args .bundle .now)
+    (c .before .before .before .before .before .before .before .before .read .result)
+    (c .before .before .before .before .before .before .before .before .read .ensures) in
     let g : c .before .before .loop .i < length (printed (s .args .bundle .now)) = omega (arith, count, c .before .loop-test .taken) in
-    let q = turn (s .args .bundle .now) (c .before .before .before .before .before .before .before .before .read .result) (c .before .before .before .before .before .before .before .before .read .ensures) (c .before .before .loop .inv .2) g in
+    let q = turn (s .args .bundle .now)
+    (c .before .before .before .before .before .before .before .before .read .result)
+    (c .before .before .before .before .before .before .before .before .read .ensures)
+    (c .before .before .loop .inv .2) g in
     omega (arith, room q)
 
 part-put-row-start : tie.Need-part-put-row-start Inv-loop μ-loop
 part-put-row-start c =
     let s = c .before .before .before .before .before .before .before .before .before .before .before .before in
-    let count = c .before .before .before .row-count .ensures ∙ row-count (s .args .bundle .now) (c .before .before .before .before .before .before .before .before .read .result) (c .before .before .before .before .before .before .before .before .read .ensures) in
+    let count = c .before .before .before .row-count .ensures
+    ∙ row-count (s .args .bundle .now)
+    (c .before .before .before .before .before .before .before .before .read .result)
+    (c .before .before .before .before .before .before .before .before .read .ensures) in
     let g : c .before .before .loop .i < length (printed (s .args .bundle .now)) = omega (arith, count, c .before .loop-test .taken) in
-    let q = turn (s .args .bundle .now) (c .before .before .before .before .before .before .before .before .read .result) (c .before .before .before .before .before .before .before .before .read .ensures) (c .before .before .loop .inv .2) g in
+    let q = turn (s .args .bundle .now)
+    (c .before .before .before .before .before .before .before .before .read .result)
+    (c .before .before .before .before .before .before .before .before .read .ensures)
+    (c .before .before .loop .inv .2) g in
     omega (arith, room q)
 
 part-put-row-end : tie.Need-part-put-row-end Inv-loop μ-loop
@@ -76,9 +96,16 @@ part-put-row-end c = search needs
 put-row-requires : tie.Need-put-row-requires Inv-loop μ-loop
 put-row-requires c κs =
     let s = c .before .before .before .before .before .before .before .before .before .before .before .before .before in
-    let count = c .before .before .before .before .row-count .ensures ∙ row-count (s .args .bundle .now) (c .before .before .before .before .before .before .before .before .before .read .result) (c .before .before .before .before .before .before .before .before .before .read .ensures) in
-    let g : c .before .before .before .loop .i < length (printed (s .args .bundle .now)) = omega (arith, count, c .before .before .loop-test .taken) in
-    let q = turn (s .args .bundle .now) (c .before .before .before .before .before .before .before .before .before .read .result) (c .before .before .before .before .before .before .before .before .before .read .ensures) (c .before .before .before .loop .inv .2) g in
+    let count = c .before .before .before .before .row-count .ensures
+    ∙ row-count (s .args .bundle .now)
+    (c .before .before .before .before .before .before .before .before .before .read .result)
+    (c .before .before .before .before .before .before .before .before .before .read .ensures) in
+    let g : c .before .before .before .loop .i < length
+    (printed (s .args .bundle .now)) = omega (arith, count, c .before .before .loop-test .taken) in
+    let q = turn (s .args .bundle .now)
+    (c .before .before .before .before .before .before .before .before .before .read .result)
+    (c .before .before .before .before .before .before .before .before .before .read .ensures)
+    (c .before .before .before .loop .inv .2) g in
     fits q
 
 add-at : tie.Need-add-at Inv-loop μ-loop
@@ -90,7 +117,8 @@ add-at c =
     let row-count′ = c .before .before .before .before .before .before .before .row-count in
     let loop′ = c .before .before .before .before .before .before .loop in
     let loop-test′ = c .before .before .before .before .before .loop-test in
-    let p = line-put (s .args .bundle .now) (read′ .result) (read′ .ensures) (s .args .k) (s .args .out .now) (if1′ .left) _ _ (put-first′ .ensures) in
+    let p = line-put (s .args .bundle .now) (read′ .result) (read′ .ensures) (s .args .k) (s .args .out .now)
+    (if1′ .left) _ _ (put-first′ .ensures) in
     let count = row-count′ .ensures ∙ row-count (s .args .bundle .now) (read′ .result) (read′ .ensures) in
     let g : loop′ .i < length (printed (s .args .bundle .now)) = omega (arith, count, loop-test′ .taken) in
     let q = turn (s .args .bundle .now) (read′ .result) (read′ .ensures) (loop′ .inv .2) g in
@@ -123,7 +151,8 @@ same-length c =
     let read′ = c .before .before .before .before .before .before .before .before .read in
     let if1′ = c .before .before .before .before .before .before .before .before .before .if1 in
     let put-first′ = c .before .before .before .before .before .before .put-first in
-    let p = line-put (s .args .bundle .now) (read′ .result) (read′ .ensures) (s .args .k) (s .args .out .now) (if1′ .left) _ _ (put-first′ .ensures) in
+    let p = line-put (s .args .bundle .now) (read′ .result) (read′ .ensures) (s .args .k) (s .args .out .now)
+    (if1′ .left) _ _ (put-first′ .ensures) in
     since p (c .before .before .loop .inv .2) (c .before .before .loop .inv .1) .wrote .long
 
 returns-2 : tie.Need-returns-2 Inv-loop μ-loop
@@ -133,7 +162,8 @@ returns-2 c =
     let if1′ = c .before .before .before .before .before .before .before .before .before .if1 in
     let put-first′ = c .before .before .before .before .before .before .put-first in
     let loop′ = c .before .before .loop in
-    let p = line-put (s .args .bundle .now) (read′ .result) (read′ .ensures) (s .args .k) (s .args .out .now) (if1′ .left) _ _ (put-first′ .ensures) in
+    let p = line-put (s .args .bundle .now) (read′ .result) (read′ .ensures) (s .args .k) (s .args .out .now)
+    (if1′ .left) _ _ (put-first′ .ensures) in
     let count = c .before .before .before .row-count .ensures ∙ row-count (s .args .bundle .now) (read′ .result) (read′ .ensures) in
     let q = last (s .args .bundle .now) (since p (loop′ .inv .2) (loop′ .inv .1)) (omega (arith, count, c .before .loop-test .left)) in
     let told = prints-all (s .args .out .now) (if1′ .left) (s .args .k) (s .args .bundle .now) (read′ .result) (read′ .ensures) q in

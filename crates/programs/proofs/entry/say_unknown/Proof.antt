@@ -36,7 +36,8 @@ put-unknown-option-requires c κs =
     let put-argument′ = word2′ .before in
     let start = put-argument′ .before .before .before .before in
     let word = take (put-argument′ .put-argument .result) (put-argument′ .put-argument .last .1 .0) in
-    let fits = unknown-fits (start .args .name .now) word (start .pre) (omega (arith, put-argument′ .put-argument .ensures, word2′ .word2 .given)) in
+    let fits = unknown-fits (start .args .name .now) word (start .pre)
+    (omega (arith, put-argument′ .put-argument .ensures, word2′ .word2 .given)) in
     omega (arith, fits, new′ .new .ensures)
 
 array-share-prefix-line : tie.Need-array-share-prefix-line
@@ -46,7 +47,8 @@ array-share-prefix-line c =
     let put-argument′ = word2′ .before in
     let start = put-argument′ .before .before .before .before in
     let word = take (put-argument′ .put-argument .result) (put-argument′ .put-argument .last .1 .0) in
-    let fits = unknown-fits (start .args .name .now) word (start .pre) (omega (arith, put-argument′ .put-argument .ensures, word2′ .word2 .given)) in
+    let fits = unknown-fits (start .args .name .now) word (start .pre)
+    (omega (arith, put-argument′ .put-argument .ensures, word2′ .word2 .given)) in
     omega (arith, fits, put-unknown-option′ .put-unknown-option .ensures .0, c .line2 .given)
 
 slice-aggregate-write-all : tie.Need-slice-aggregate-write-all
@@ -57,7 +59,8 @@ slice-aggregate-write-all c =
     let put-argument′ = word2′ .before in
     let start = put-argument′ .before .before .before .before in
     let word = take (put-argument′ .put-argument .result) (put-argument′ .put-argument .last .1 .0) in
-    let fits = unknown-fits (start .args .name .now) word (start .pre) (omega (arith, put-argument′ .put-argument .ensures, word2′ .word2 .given)) in
+    let fits = unknown-fits (start .args .name .now) word (start .pre)
+    (omega (arith, put-argument′ .put-argument .ensures, word2′ .word2 .given)) in
     sym (length-take-le _ _ (omega (arith, fits, put-unknown-option′ .put-unknown-option .ensures .0, line2′ .line2 .given)))
 
 write-all-requires : tie.Need-write-all-requires

@@ -14,7 +14,8 @@ check-in-requires : tie.Need-check-in-requires
 check-in-requires c κs = search needs
 
 returns : tie.Need-returns
-returns c = c .check-in .ensures ∙ ap (λ (m : Mode). counts (options m max-rows) (c .before .before .before .args .bytes .now)) (c .before .default .ensures)
+returns c = c .check-in .ensures
+    ∙ ap (λ (m : Mode). counts (options m max-rows) (c .before .before .before .args .bytes .now)) (c .before .default .ensures)
 
 pub check-spec : {M : Type 1} → statement M
 check-spec = tie.close (tie.spec default-requires check-in-requires returns)

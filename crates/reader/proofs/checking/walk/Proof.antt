@@ -53,7 +53,8 @@ returns-2 c =
     let w = rw (left′ .given .1) at (fields′ .ensures .0) in
     λ n m.
     let o = options (a .mode) n in
-    let r = rw (left′ .given .1) at (fields′ .ensures .1 (outside top-fields) o start (sym (is-strict′ .ensures)) (outside-lane top-fields) (stands-start _ _) (row-start o (a .most) m) top-place) in
+    let r = rw (left′ .given .1) at (fields′ .ensures .1 (outside top-fields) o start (sym (is-strict′ .ensures))
+    (outside-lane top-fields) (stands-start _ _) (row-start o (a .most) m) top-place) in
     c .fail2 .ensures ∙ top-keyed o (a .bytes .now) (if1′ .left) r (w .1) (eqb-yes (c .before .if2 .taken))
 
 sub-new : tie.Need-sub-new
@@ -68,7 +69,8 @@ sub-new c =
     let a = args′ in
     let o = options (a .mode) (a .most) in
     let most : min max-rows (a .most) ≡ a .most = omega (arith, pre′) in
-    let r = rw (left′ .given .1) at (fields′ .ensures .1 (outside top-fields) o start (sym (is-strict′ .ensures)) (outside-lane top-fields) (stands-start _ _) (row-start o (a .most) most) top-place) in
+    let r = rw (left′ .given .1) at (fields′ .ensures .1 (outside top-fields) o start (sym (is-strict′ .ensures))
+    (outside-lane top-fields) (stands-start _ _) (row-start o (a .most) most) top-place) in
     omega (arith, r .row)
 
 sub-new-2 : tie.Need-sub-new-2
@@ -96,7 +98,8 @@ returns-3 c =
     let a = args′ in
     λ n m.
     let o = options (a .mode) n in
-    let r = rw (c .before .f .given .1) at (c .before .before .before .fields .ensures .1 (outside top-fields) o start (sym (is-strict′ .ensures)) (outside-lane top-fields) (stands-start _ _) (row-start o (a .most) m) top-place) in
+    let r = rw (c .before .f .given .1) at (c .before .before .before .fields .ensures .1 (outside top-fields) o start
+    (sym (is-strict′ .ensures)) (outside-lane top-fields) (stands-start _ _) (row-start o (a .most) m) top-place) in
     top-failed o (a .bytes .now) (if1′ .left) r
 
 returns-4 : tie.Need-returns-4
@@ -112,8 +115,10 @@ returns-4 c =
     let w = rw (left′ .given .1) at (fields′ .ensures .0) in
     λ n m.
     let o = options (a .mode) n in
-    let r = rw (left′ .given .1) at (fields′ .ensures .1 (outside top-fields) o start (sym (is-strict′ .ensures)) (outside-lane top-fields) (stands-start _ _) (row-start o (a .most) m) top-place) in
-    rw (c .new2 .ensures) (top-good o (a .bytes .now) (if1′ .left) r (w .1) (a .most) m (w .0 .size) (w .0 .few) (eqb-no (c .before .before .if2 .left)))
+    let r = rw (left′ .given .1) at (fields′ .ensures .1 (outside top-fields) o start (sym (is-strict′ .ensures))
+    (outside-lane top-fields) (stands-start _ _) (row-start o (a .most) m) top-place) in
+    rw (c .new2 .ensures) (top-good o (a .bytes .now) (if1′ .left) r (w .1) (a .most) m (w .0 .size) (w .0 .few)
+    (eqb-no (c .before .before .if2 .left)))
 
 returns-5 : tie.Need-returns-5
 returns-5 c =

@@ -43,12 +43,21 @@ fields-Inv-loop s strict depth from known free entries₀ links₀ at₀ names�
     → Leads o s entries (cursor at names rows keyed) (Q left (eqb keyed 1)) a)
 
 abbrev fields-μ-loop : fields-lts.MeasureT-loop
-fields-μ-loop s strict depth from known free entries₀ links₀ at₀ names₀ rows₀ keyed₀ left₀ entries links at names rows keyed left = length s - at
+fields-μ-loop s strict depth from known free entries₀ links₀ at₀ names₀ rows₀ keyed₀ left₀ entries links at names rows
+    keyed left = length s - at
 
 fields-loop-holds : (t : ℕ) → fields-lts.Need-loop-holds (claims t) (fields-at t) fields.Post fields-Inv-loop fields-μ-loop
 fields-loop-holds t c =
-    let p = c .before .pre .1 in
-    (record { fair = p .2; within = p .0; back = omega arith; most = omega arith; rest = λ _. refl }, λ Q o a so l h f e. start-field Q _ a h f e)
+    let p = c .before .pre .1 in (
+      record {
+        fair = p .2;
+        within = p .0;
+        back = omega arith;
+        most = omega arith;
+        rest = λ _. refl;
+      },
+      λ Q o a so l h f e. start-field Q _ a h f e,
+    )
 
 fields-returns : (t : ℕ) → fields-lts.Need-returns (claims t) (fields-at t) fields.Post fields-Inv-loop fields-μ-loop
 fields-returns t c =
@@ -329,7 +338,8 @@ fields-returns-8 t c =
       tt,
       λ Q o a so l h f e.
           field-held-bad Q _ _ (loop′ .left) l (loop-test′ .taken) (inv .0 .most) (inv .1 Q o a so l h f e) (if1′ .left) _ _
-          (λ b. one′ .ensures .1 o b so) (if6′ .left) _ _ (n′ .given .1) (g .0) (g .1) _ _ (λ Q b. c .before .before .before .fields .ensures .1 Q o b so) _ (c .before .f .given .1),
+          (λ b. one′ .ensures .1 o b so) (if6′ .left) _ _ (n′ .given .1) (g .0)
+          (g .1) _ _ (λ Q b. c .before .before .before .fields .ensures .1 Q o b so) _ (c .before .f .given .1),
     )
 
 fields-enum-known-v : (t : ℕ) → fields-lts.Need-enum-known-v (claims t) (fields-at t) fields.Post fields-Inv-loop fields-μ-loop
@@ -391,7 +401,8 @@ fields-loop-again-5 t c =
       along-held (inv .0) (loop-test′ .taken) _ (g .2) (w .0) (w .1) (w .2),
       λ Q o a so l h f e.
           field-held-good Q _ _ (loop′ .left) l (loop-test′ .taken) (inv .0 .most) (inv .1 Q o a so l h f e) (if1′ .left) _ _
-          (λ b. one′ .ensures .1 o b so) (if6′ .left) _ _ (n′ .given .1) (g .0) (g .1) _ _ (λ Q b. c .before .before .before .fields .ensures .1 Q o b so) _ (c .before .v2 .given .1) (w .3),
+          (λ b. one′ .ensures .1 o b so) (if6′ .left) _ _ (n′ .given .1) (g .0)
+          (g .1) _ _ (λ Q b. c .before .before .before .fields .ensures .1 Q o b so) _ (c .before .v2 .given .1) (w .3),
     )
 
 fields-returns-10 : (t : ℕ) → fields-lts.Need-returns-10 (claims t) (fields-at t) fields.Post fields-Inv-loop fields-μ-loop

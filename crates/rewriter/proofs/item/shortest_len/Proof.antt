@@ -13,7 +13,11 @@ header-len-requires : tie.Need-header-len-requires
 header-len-requires c κs = search needs
 
 returns-2 : tie.Need-returns-2
-returns-2 c = (c .header-len .ensures, rw (c .header-len .ensures) (header-most (c .before .before .args .h .code) (c .before .before .args .h .payload) (omega arith)))
+returns-2 c = (
+  c .header-len .ensures,
+  rw (c .header-len .ensures)
+      (header-most (c .before .before .args .h .code) (c .before .before .args .h .payload) (omega arith)),
+)
 
 pub shortest-len-spec : {M : Type 1} → statement M
 shortest-len-spec = tie.close (tie.spec returns header-len-requires returns-2)

@@ -24,7 +24,8 @@ headed-requires c κs =
 returns : tie.Need-returns
 returns c =
     let s = c .before .before .before .before .before .before in
-    λ zs u w p. never-cut lenient _ (p .state) (p .reads) (rw (p .offset) (s .pre .1)) (rw (p .offset) (rw (c .enum-told .given .1) at (c .before .before .header-at .ensures)))
+    λ zs u w p. never-cut lenient _ (p .state) (p .reads) (rw (p .offset) (s .pre .1))
+    (rw (p .offset) (rw (c .enum-told .given .1) at (c .before .before .header-at .ensures)))
 
 returns-2 : tie.Need-returns-2
 returns-2 c = search needs

@@ -11,7 +11,8 @@ use Rattle.rewriter.proofs.measuring.measure.Statement.{statement}
 use Rattle.rewriter.proofs.measuring.measure.Tie as tie
 
 abbrev Inv-loop : tie.InvT-loop
-Inv-loop first second s side entries₀ links₀ plan₀ to₀ t₀ entries links plan to t = (zs : List Item) (u : State) → Begun first second s side zs u entries₀ links₀ plan₀ t₀ → Stage first second s zs u entries links to plan t
+Inv-loop first second s side entries₀ links₀ plan₀ to₀ t₀ entries links plan to t = (zs : List Item) (u : State)
+    → Begun first second s side zs u entries₀ links₀ plan₀ t₀ → Stage first second s zs u entries links to plan t
 
 abbrev μ-loop : tie.MeasureT-loop
 μ-loop first second s side entries₀ links₀ plan₀ to₀ t₀ entries links plan to t = length s - t .at

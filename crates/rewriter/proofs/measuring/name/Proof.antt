@@ -45,8 +45,12 @@ key-of-requires c κs =
 note-requires : tie.Need-note-requires
 note-requires c κs =
     let kind = c .before .before .before .before in
-    let s = kind .before .before .before .before .before .before .before in
-    (s .pre .0 .partway .measured .table, rw (kind .before .of .ensures, kind .kind-of .ensures) (name-here (s .pre) .part), c .before .before .key-of .ensures .0)
+    let s = kind .before .before .before .before .before .before .before in (
+      s .pre .0 .partway .measured .table,
+      rw (kind .before .of .ensures, kind .kind-of .ensures)
+          (name-here (s .pre) .part),
+      c .before .before .key-of .ensures .0,
+    )
 
 enum-known-i : tie.Need-enum-known-i
 enum-known-i c = search needs
@@ -114,8 +118,14 @@ fresh-requires c κs =
     let s = kind .before .before .before .before .before .before .before in
     let note′ = c .before .before .before .before .note in
     let q = name-here (s .pre) in
-    let g = rw (c .before .before .enum-told .given .1) at (note′ .ensures) in
-    (s .pre .0 .partway .measured .plan-size, q .room, q .small, omega (arith, q .within, q .short, kind .before .of .ensures, c .shortest-len .ensures .1), q .old, g .room)
+    let g = rw (c .before .before .enum-told .given .1) at (note′ .ensures) in (
+      s .pre .0 .partway .measured .plan-size,
+      q .room,
+      q .small,
+      omega (arith, q .within, q .short, kind .before .of .ensures, c .shortest-len .ensures .1),
+      q .old,
+      g .room,
+    )
 
 enum-told-2 : tie.Need-enum-told-2
 enum-told-2 c = search needs
@@ -131,7 +141,9 @@ returns c =
     λ zs u w p.
     let q = name-here (s .pre) in
     let g = rw (c .before .before .before .i .given .1, kind .before .of .ensures, kind .kind-of .ensures, q .count) at (note′ .ensures) in
-    rw (g .2, g .3, c .referred .ensures .1) (known-on w p (s .pre .1) (q .form) (s .pre .2) (c .before .before .before .i .given .0 .0) (g .0) (g .1) (rw (kind .before .of .ensures) at (c .referred .ensures .0)))
+    rw (g .2, g .3, c .referred .ensures .1)
+    (known-on w p (s .pre .1) (q .form) (s .pre .2) (c .before .before .before .i .given .0 .0) (g .0) (g .1)
+    (rw (kind .before .of .ensures) at (c .referred .ensures .0)))
 
 returns-2 : tie.Need-returns-2
 returns-2 c =
@@ -141,7 +153,10 @@ returns-2 c =
     λ zs u w p.
     let q = name-here (s .pre) in
     let g = rw (c .before .before .before .enum-told .given .1, kind .before .of .ensures, kind .kind-of .ensures, q .count) at (note′ .ensures) in
-    rw (c .fresh .ensures .1) (fresh-on w p (s .pre .1) (q .form) (s .pre .2) g (rw (kind .before .of .ensures) at (c .fresh .ensures .0) ∙ ap (tallied (s .args .t) (s .args .t .at + s .args .h .size + s .args .h .payload) (s .args .t .entries + 1) (s .args .t .names + 1)) (omega (arith, q .count, c .before .shortest-len .ensures .0))))
+    rw (c .fresh .ensures .1)
+    (fresh-on w p (s .pre .1) (q .form) (s .pre .2) g (rw (kind .before .of .ensures) at (c .fresh .ensures .0)
+    ∙ ap (tallied (s .args .t) (s .args .t .at + s .args .h .size + s .args .h .payload) (s .args .t .entries + 1)
+    (s .args .t .names + 1)) (omega (arith, q .count, c .before .shortest-len .ensures .0))))
 
 returns-3 : tie.Need-returns-3
 returns-3 c =
@@ -149,7 +164,8 @@ returns-3 c =
     let s = kind .before .before .before .before .before .before .before in
     λ zs u w p.
     let q = name-here (s .pre) in
-    let g = rw (c .before .enum-told2 .given .1, kind .before .of .ensures, kind .kind-of .ensures, q .count) at (c .before .before .before .note .ensures) in
+    let g = rw (c .before .enum-told2 .given .1, kind .before .of .ensures, kind .kind-of .ensures, q .count)
+    at (c .before .before .before .note .ensures) in
     full-over w p (s .pre .1) (q .form) (s .pre .2) (g .0) (g .1) (c .over .ensures .0) (c .over .ensures .1)
 
 pub name-spec : {M : Type 1} → statement M

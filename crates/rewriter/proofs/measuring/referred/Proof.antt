@@ -20,7 +20,11 @@ after-requires : tie.Need-after-requires
 after-requires c κs = (c .before .pre .1, omega (arith, c .before .pre, c .header-len .ensures, header-most 7 (c .before .args .i) (omega arith)))
 
 returns : tie.Need-returns
-returns c = (c .after .ensures ∙ ap (tallied (c .before .before .args .t) (c .before .before .args .at) (c .before .before .args .entries) (c .before .before .args .t .names)) (c .before .header-len .ensures), refl)
+returns c = (
+  c .after .ensures ∙ ap (tallied (c .before .before .args .t) (c .before .before .args .at)
+      (c .before .before .args .entries) (c .before .before .args .t .names)) (c .before .header-len .ensures),
+  refl,
+)
 
 pub referred-spec : {M : Type 1} → statement M
 referred-spec =

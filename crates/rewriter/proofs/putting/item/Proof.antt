@@ -22,7 +22,8 @@ put-next-requires c κs =
 returns : tie.Need-returns
 returns c =
     let s = c .before .before .before .before .before in
-    λ zs ws u old g p. never-cut lenient _ (p .state) (p .reads) (rw (p .offset) (s .pre .1)) (rw (p .offset) (rw (c .enum-told .given .1) at (c .before .before .header-at .ensures)))
+    λ zs ws u old g p. never-cut lenient _ (p .state) (p .reads) (rw (p .offset) (s .pre .1))
+    (rw (p .offset) (rw (c .enum-told .given .1) at (c .before .before .header-at .ensures)))
 
 same-length : tie.Need-same-length
 same-length c = search needs

@@ -12,7 +12,8 @@ use Rattle.rewriter.proofs.putting.put.Statement.{statement}
 use Rattle.rewriter.proofs.putting.put.Tie as tie
 
 abbrev Inv-loop : tie.InvT-loop
-Inv-loop out₀ s plan w₀ out w = (zs ws : List Item) (u : State) (old : List ℕ) → Planning s zs ws u plan (length old) → Put zs old out₀ w₀ → Putting s zs u old out w
+Inv-loop out₀ s plan w₀ out w = (zs ws : List Item) (u : State) (old : List ℕ) → Planning s zs ws u plan (length old)
+    → Put zs old out₀ w₀ → Putting s zs u old out w
 
 abbrev μ-loop : tie.MeasureT-loop
 μ-loop out₀ s plan w₀ out w = length s - w .at
@@ -23,8 +24,17 @@ loop-holds c = λ zs ws u old g p. put-start g p refl
 item-requires : tie.Need-item-requires Inv-loop μ-loop
 item-requires c κs =
     let s = c .before .before .before .before .before .before in
-    let k = s .pre in
-    (record { zs = k .zs; ws = k .ws; u = k .u; old = k .old; planning = k .planning; putting = c .before .before .before .loop .inv _ _ _ _ (k .planning) (put-as (k .put) refl refl) }, c .before .if1 .taken)
+    let k = s .pre in (
+      record {
+        zs = k .zs;
+        ws = k .ws;
+        u = k .u;
+        old = k .old;
+        planning = k .planning;
+        putting = c .before .before .before .loop .inv _ _ _ _ (k .planning) (put-as (k .put) refl refl);
+      },
+      c .before .if1 .taken,
+    )
 
 loop-less : tie.Need-loop-less Inv-loop μ-loop
 loop-less c =

@@ -30,8 +30,11 @@ returns c =
     let s = c .before .before .before .before .before .before .before .before .before in
     let is-number′ = c .before .before .before .before .before .before .is-number in
     let if1′ = c .before .before .before .before .before .if1 in
-    let n = sym (is-number′ .ensures) ∙ if1′ .taken in
-    (rw (rewritten-number _ _ _ (s .args .h) n, ← c .before .before .before .number-of .ensures) (c .before .before .put-header .ensures), ends-number (s .args .s .now) (s .args .refer) _ (s .args .h) n)
+    let n = sym (is-number′ .ensures) ∙ if1′ .taken in (
+      rw (rewritten-number _ _ _ (s .args .h) n, ← c .before .before .before .number-of .ensures)
+          (c .before .before .put-header .ensures),
+      ends-number (s .args .s .now) (s .args .refer) _ (s .args .h) n,
+    )
 
 put-header-requires-2 : tie.Need-put-header-requires-2
 put-header-requires-2 c κs =
@@ -48,8 +51,12 @@ returns-2 c =
     let is-number′ = c .before .before .before .before .before .before .is-number in
     let if1′ = c .before .before .before .before .before .if1 in
     let if2′ = c .before .before .before .before .if2 in
-    let n = sym (is-number′ .ensures) ∙ if1′ .left in
-    (rw (rewritten-reference (s .args .s .now) (s .args .refer) (s .args .next) (s .args .h) n (if2′ .taken)) (c .before .before .put-header2 .ensures), ends-reference (s .args .s .now) (s .args .refer) _ (s .args .h) n (if2′ .taken))
+    let n = sym (is-number′ .ensures) ∙ if1′ .left in (
+      rw (rewritten-reference (s .args .s .now) (s .args .refer) (s .args .next) (s .args .h) n (if2′ .taken))
+          (c .before .before .put-header2 .ensures),
+      ends-reference (s .args .s .now) (s .args .refer) _ (s .args .h) n
+          (if2′ .taken),
+    )
 
 is-fixed-requires : tie.Need-is-fixed-requires
 is-fixed-requires c κs = search needs
@@ -59,8 +66,11 @@ put-fixed-requires c κs =
     let s = c .before .before .before .before .before .before .before .before in
     let is-number′ = c .before .before .before .before .before .is-number in
     let n = sym (is-number′ .ensures) ∙ c .before .before .before .before .if1 .left in
-    let f = sym (c .before .before .is-fixed .ensures) ∙ c .before .if3 .taken in
-    (fixed-code (s .args .h .code) (s .args .h .sz) f .1, rw (rewritten-fixed (s .args .s .now) (s .args .refer) (s .args .next) (s .args .h) n (c .before .before .before .if2 .left) f) at (s .pre .2))
+    let f = sym (c .before .before .is-fixed .ensures) ∙ c .before .if3 .taken in (
+      fixed-code (s .args .h .code) (s .args .h .sz) f .1,
+      rw (rewritten-fixed (s .args .s .now) (s .args .refer) (s .args .next)
+          (s .args .h) n (c .before .before .before .if2 .left) f) at (s .pre .2),
+    )
 
 same-length-3 : tie.Need-same-length-3
 same-length-3 c = search needs
@@ -73,8 +83,11 @@ returns-3 c =
     let is-fixed′ = c .before .before .before .before .before .is-fixed in
     let if2′ = c .before .before .before .before .before .before .if2 in
     let n = sym (is-number′ .ensures) ∙ if1′ .left in
-    let f = sym (is-fixed′ .ensures) ∙ c .before .before .before .before .if3 .taken in
-    (rw (rewritten-fixed (s .args .s .now) (s .args .refer) (s .args .next) (s .args .h) n (if2′ .left) f) (c .before .before .put-fixed .ensures), ends-fixed (s .args .s .now) (s .args .refer) _ (s .args .h) n (if2′ .left) f)
+    let f = sym (is-fixed′ .ensures) ∙ c .before .before .before .before .if3 .taken in (
+      rw (rewritten-fixed (s .args .s .now) (s .args .refer) (s .args .next) (s .args .h) n (if2′ .left) f)
+          (c .before .before .put-fixed .ensures),
+      ends-fixed (s .args .s .now) (s .args .refer) _ (s .args .h) n (if2′ .left) f,
+    )
 
 of-requires : tie.Need-of-requires
 of-requires c κs = search needs
@@ -110,8 +123,12 @@ put-named-requires c κs =
     let if2′ = c .before .before .before .before .before .before .if2 in
     let n = sym (is-number′ .ensures) ∙ if1′ .left in
     let f = sym (c .before .before .before .before .before .is-fixed .ensures) ∙ c .before .before .before .before .if3 .left in
-    let d : s .args .next + s .args .h .payload - s .args .next ≡ s .args .h .payload = omega arith in
-    (omega (arith, if2′ .left), rw (c .before .before .before .of .ensures, d) (rw (rewritten-name (s .args .s .now) (s .args .refer) (s .args .next) (s .args .h) n (if2′ .left) f (c .before .before .if4 .taken)) at (s .pre .2)))
+    let d : s .args .next + s .args .h .payload - s .args .next ≡ s .args .h .payload = omega arith in (
+      omega (arith, if2′ .left),
+      rw (c .before .before .before .of .ensures, d)
+          (rw (rewritten-name (s .args .s .now) (s .args .refer) (s .args .next) (s .args .h) n (if2′ .left) f
+          (c .before .before .if4 .taken)) at (s .pre .2)),
+    )
 
 same-length-4 : tie.Need-same-length-4
 same-length-4 c = search needs
@@ -128,8 +145,13 @@ returns-4 c =
     let if4′ = c .before .before .before .before .before .if4 in
     let n = sym (is-number′ .ensures) ∙ if1′ .left in
     let f = sym (is-fixed′ .ensures) ∙ if3′ .left in
-    let d : s .args .next + s .args .h .payload - s .args .next ≡ s .args .h .payload = omega arith in
-    (rw (rewritten-name (s .args .s .now) (s .args .refer) (s .args .next) (s .args .h) n (if2′ .left) f (if4′ .taken)) (rw (c .before .before .before .before .before .before .of .ensures, d) at (c .before .before .put-named .ensures)), ap (λ (n : ℕ). s .args .next + n) (c .before .before .before .before .before .before .of .ensures) ∙ ends-held (s .args .s .now) (s .args .refer) _ (s .args .h) n (if2′ .left) f)
+    let d : s .args .next + s .args .h .payload - s .args .next ≡ s .args .h .payload = omega arith in (
+      rw (rewritten-name (s .args .s .now) (s .args .refer) (s .args .next) (s .args .h) n (if2′ .left) f
+          (if4′ .taken)) (rw (c .before .before .before .before .before .before .of .ensures, d)
+          at (c .before .before .put-named .ensures)),
+      ap (λ (n : ℕ). s .args .next + n) (c .before .before .before .before .before .before .of .ensures)
+          ∙ ends-held (s .args .s .now) (s .args .refer) _ (s .args .h) n (if2′ .left) f,
+    )
 
 sub-put-sized : tie.Need-sub-put-sized
 sub-put-sized c = search needs
@@ -155,8 +177,12 @@ put-sized-requires c κs =
     let if2′ = c .before .before .before .before .before .before .if2 in
     let n = sym (is-number′ .ensures) ∙ if1′ .left in
     let f = sym (c .before .before .before .before .before .is-fixed .ensures) ∙ c .before .before .before .before .if3 .left in
-    let d : s .args .next + s .args .h .payload - s .args .next ≡ s .args .h .payload = omega arith in
-    (omega (arith, c .before .before .if4 .left), rw (c .before .before .before .of .ensures, d) (rw (rewritten-sized (s .args .s .now) (s .args .refer) (s .args .next) (s .args .h) n (if2′ .left) f (c .before .before .if4 .left)) at (s .pre .2)))
+    let d : s .args .next + s .args .h .payload - s .args .next ≡ s .args .h .payload = omega arith in (
+      omega (arith, c .before .before .if4 .left),
+      rw (c .before .before .before .of .ensures, d)
+          (rw (rewritten-sized (s .args .s .now) (s .args .refer) (s .args .next) (s .args .h) n (if2′ .left) f
+          (c .before .before .if4 .left)) at (s .pre .2)),
+    )
 
 same-length-5 : tie.Need-same-length-5
 same-length-5 c = search needs
@@ -173,8 +199,13 @@ returns-5 c =
     let if4′ = c .before .before .before .before .before .if4 in
     let n = sym (is-number′ .ensures) ∙ if1′ .left in
     let f = sym (is-fixed′ .ensures) ∙ if3′ .left in
-    let d : s .args .next + s .args .h .payload - s .args .next ≡ s .args .h .payload = omega arith in
-    (rw (rewritten-sized (s .args .s .now) (s .args .refer) (s .args .next) (s .args .h) n (if2′ .left) f (if4′ .left)) (rw (c .before .before .before .before .before .before .of .ensures, d) at (c .before .before .put-sized .ensures)), ap (λ (n : ℕ). s .args .next + n) (c .before .before .before .before .before .before .of .ensures) ∙ ends-held (s .args .s .now) (s .args .refer) _ (s .args .h) n (if2′ .left) f)
+    let d : s .args .next + s .args .h .payload - s .args .next ≡ s .args .h .payload = omega arith in (
+      rw (rewritten-sized (s .args .s .now) (s .args .refer) (s .args .next) (s .args .h) n (if2′ .left) f
+          (if4′ .left)) (rw (c .before .before .before .before .before .before .of .ensures, d)
+          at (c .before .before .put-sized .ensures)),
+      ap (λ (n : ℕ). s .args .next + n) (c .before .before .before .before .before .before .of .ensures)
+          ∙ ends-held (s .args .s .now) (s .args .refer) _ (s .args .h) n (if2′ .left) f,
+    )
 
 pub put-item-spec : {M : Type 1} → statement M
 put-item-spec =

@@ -58,7 +58,9 @@ returns : tie.Need-returns
 returns c =
     let s = c .before .before .before .before .before .before .before .before .before .before in
     let put-item′ = c .before .before .before .put-item in
-    λ zs ws u old g p. put-on g p (s .pre .1) _ _ (put-item′ .ensures .1) refl (puts-at _ _ (rewritten (s .args .s .now) (getD (s .args .plan .now) (s .args .w .row) 0) (s .args .w .at + s .args .h .size) (s .args .h)) _ _ (put-item′ .ensures .0))
+    λ zs ws u old g p. put-on g p (s .pre .1) _ _ (put-item′ .ensures .1) refl
+    (puts-at _ _ (rewritten (s .args .s .now) (getD (s .args .plan .now) (s .args .w .row) 0)
+    (s .args .w .at + s .args .h .size) (s .args .h)) _ _ (put-item′ .ensures .0))
 
 pub put-next-spec : {M : Type 1} → statement M
 put-next-spec =

@@ -19,17 +19,48 @@ header-len-requires c κs = search needs
 returns : tie.Need-returns
 returns c =
     let a = c .before .before .before .args in
-    let h = rw (c .before .code-of .ensures) at (c .header-len .ensures) in
-    (h ∙ omega (arith, length-sized (record { kind = a .kind; number = a .number; content = [] }) (c .before .before .if1 .taken)), rw h (header-most (a .kind - Kind.bytes) (a .number) (omega arith)))
+    let h = rw (c .before .code-of .ensures) at (c .header-len .ensures) in (
+      h ∙ omega (
+        arith,
+        length-sized (record {
+          kind = a .kind;
+          number = a .number;
+          content = [];
+        }) (c .before .before .if1 .taken),
+      ),
+      rw h (header-most (a .kind - Kind.bytes) (a .number) (omega arith)),
+    )
 
 returns-2 : tie.Need-returns-2
-returns-2 c = (length-fixed (record { kind = _; number = _; content = [] }) 4 (omega (arith, c .if2 .taken)) (following-single 0 _ refl (c .if2 .taken)), omega arith)
+returns-2 c = (
+  length-fixed (record {
+    kind = _;
+    number = _;
+    content = [];
+  }) 4 (omega (arith, c .if2 .taken)) (following-single 0 _ refl (c .if2 .taken)),
+  omega arith,
+)
 
 returns-3 : tie.Need-returns-3
-returns-3 c = (length-fixed (record { kind = _; number = _; content = [] }) 8 (omega (arith, c .if3 .taken)) (following-double 0 _ refl (c .if3 .taken)), omega arith)
+returns-3 c = (
+  length-fixed (record {
+    kind = _;
+    number = _;
+    content = [];
+  }) 8 (omega (arith, c .if3 .taken)) (following-double 0 _ refl (c .if3 .taken)),
+  omega arith,
+)
 
 returns-4 : tie.Need-returns-4
-returns-4 c = (length-fixed (record { kind = _; number = _; content = [] }) 0 (omega (arith, c .before .before .if1 .left)) (following-small 0 _ refl (omega (arith, c .before .before .if1 .left, c .before .if2 .left, c .if3 .left))), omega arith)
+returns-4 c = (
+  length-fixed (record {
+    kind = _;
+    number = _;
+    content = [];
+  }) 0 (omega (arith, c .before .before .if1 .left))
+      (following-small 0 _ refl (omega (arith, c .before .before .if1 .left, c .before .if2 .left, c .if3 .left))),
+  omega arith,
+)
 
 pub plain-len-spec : {M : Type 1} → statement M
 plain-len-spec = tie.close (tie.spec code-of-requires header-len-requires returns returns-2 returns-3 returns-4)

@@ -47,7 +47,8 @@ named-requires : tie.Need-named-requires
 named-requires c κs =
     let r = c .before .before .args .row in
     let h = rw (c .before .code-of .ensures) at (c .header-len .ensures) in
-    ready-more (c .before .before .pre .0 .1) _ (omega (arith, h, header-most (r .kind - Kind.bytes) (r .number) (omega (arith, c .before .before .pre .5)), c .before .before .pre .5))
+    ready-more (c .before .before .pre .0 .1) _
+    (omega (arith, h, header-most (r .kind - Kind.bytes) (r .number) (omega (arith, c .before .before .pre .5)), c .before .before .pre .5))
 
 returns : tie.Need-returns
 returns c =

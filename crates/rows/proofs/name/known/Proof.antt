@@ -18,7 +18,8 @@ header-len-requires : tie.Need-header-len-requires
 header-len-requires c κs = search needs
 
 named-requires : tie.Need-named-requires
-named-requires c κs = ready-more (c .before .pre .0 .1) _ (omega (arith, c .header-len .ensures, header-most 7 (c .before .args .i) (omega arith)))
+named-requires c κs = ready-more (c .before .pre .0 .1) _
+    (omega (arith, c .header-len .ensures, header-most 7 (c .before .args .i) (omega arith)))
 
 returns : tie.Need-returns
 returns c = (c .named .ensures ∙ ap (namedBy _ _ _ _) (c .before .header-len .ensures), refl)

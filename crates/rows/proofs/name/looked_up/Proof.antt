@@ -27,11 +27,15 @@ returns : tie.Need-returns
 returns c = λ xs a.
     let w = c .before .before .before .before .before .pre .1 in
     refuse-next a (c .before .before .before .before .before .args .row) invalid-utf8 (c .refuse .ensures)
-    (name-invalid a (c .before .before .before .before .before .args .row) (w .name) (w .fine) (w .alone) (ap not (ap utf8 (sym (c .before .before .before .content .ensures)) ∙ sym (c .before .before .is-utf8 .ensures)) ∙ c .before .if1 .taken))
+    (name-invalid a (c .before .before .before .before .before .args .row) (w .name) (w .fine) (w .alone)
+    (ap not (ap utf8 (sym (c .before .before .before .content .ensures))
+    ∙ sym (c .before .before .is-utf8 .ensures)) ∙ c .before .if1 .taken))
 
 key-of-requires : tie.Need-key-of-requires
 key-of-requires c κs = let p = c .before .before .before .before .pre in
-    let w = name-stands (c .before .before .before .before .args .text .now) (c .before .before .before .before .args .row) (p .1 .name) (p .1 .fine) (p .0 .short) (c .before .before .content .ensures) in
+    let w = name-stands (c .before .before .before .before .args .text .now)
+    (c .before .before .before .before .args .row) (p .1 .name) (p .1 .fine) (p .0 .short)
+    (c .before .before .content .ensures) in
     (w .low, w .high, w .short)
 
 note-requires : tie.Need-note-requires
@@ -73,7 +77,10 @@ returns-2 c = λ xs a.
     let r = c .before .before .before .before .before .before .before .before .before .before .before .before .before .args .row in
     let n = rw (c .before .before .before .i .given .1) at (c .before .before .before .before .before .note .ensures) in
     rw (n .2, n .3)
-    (known-next a r (p .1) (p .0) _ (omega (arith, n .1)) (looked-up a r (p .1) (p .0) (c .before .before .before .before .before .before .before .before .before .before .before .content .ensures) (n .0)) (c .known .ensures .0) (c .known .ensures .1))
+    (known-next a r (p .1) (p .0) _ (omega (arith, n .1))
+    (looked-up a r (p .1) (p .0)
+    (c .before .before .before .before .before .before .before .before .before .before .before .content .ensures)
+    (n .0)) (c .known .ensures .0) (c .known .ensures .1))
 
 returns-3 : tie.Need-returns-3
 returns-3 c =
@@ -93,7 +100,9 @@ returns-4 c = λ xs a.
     let r = c .before .before .before .before .before .before .before .before .before .before .before .args .row in
     let w = p .1 in
     let n = rw (c .before .enum-told2 .given .1) at (c .before .before .before .note .ensures) in
-    let u = ap utf8 (sym (c .before .before .before .before .before .before .before .before .before .content .ensures)) ∙ sym (c .before .before .before .before .before .before .before .before .is-utf8 .ensures) ∙ not-false (c .before .before .before .before .before .before .before .if1 .left) in
+    let u = ap utf8 (sym (c .before .before .before .before .before .before .before .before .before .content .ensures))
+    ∙ sym (c .before .before .before .before .before .before .before .before .is-utf8 .ensures)
+    ∙ not-false (c .before .before .before .before .before .before .before .if1 .left) in
     let e = looked-up a r w (p .0) (c .before .before .before .before .before .before .before .before .before .content .ensures) (n .0) in
     refuse-next a r too-many-entries (c .refuse2 .ensures) (fresh-full a r (w .name) (w .fine) (w .alone) (among a r w (p .0) e) u (n .1))
 

@@ -21,7 +21,9 @@ returns c = λ xs a.
     let r = c .before .before .before .before .args .row in
     let text = c .before .before .before .before .args .text .now in
     let name = c .before .before .before .before .pre .1 in
-    refuse-next a r invalid-row (c .refuse .ensures) (rule-9 text (a .progress) r (bad-content text r (content-text (r .kind) (omega arith)) ∙ sym (c .before .before .is-bad .ensures) ∙ c .before .if1 .taken))
+    refuse-next a r invalid-row (c .refuse .ensures)
+    (rule-9 text (a .progress) r (bad-content text r (content-text (r .kind) (omega arith))
+    ∙ sym (c .before .before .is-bad .ensures) ∙ c .before .if1 .taken))
 
 key-after-key-requires : tie.Need-key-after-key-requires
 key-after-key-requires c κs = search needs
@@ -34,8 +36,10 @@ returns-2 c = λ xs a.
     let r = c .before .before .before .before .before .before .args .row in
     let text = c .before .before .before .before .before .before .args .text .now in
     let name = c .before .before .before .before .before .before .pre .1 in
-    let fine = bad-content text r (content-text (r .kind) (omega arith)) ∙ sym (c .before .before .before .before .is-bad .ensures) ∙ c .before .before .before .if1 .left in
-    refuse-next a r unexpected-key (c .refuse2 .ensures) (name-again a r name fine (sym (c .before .before .key-after-key .ensures) ∙ c .before .if2 .taken))
+    let fine = bad-content text r (content-text (r .kind) (omega arith))
+    ∙ sym (c .before .before .before .before .is-bad .ensures) ∙ c .before .before .before .if1 .left in
+    refuse-next a r unexpected-key (c .refuse2 .ensures)
+    (name-again a r name fine (sym (c .before .before .key-after-key .ensures) ∙ c .before .if2 .taken))
 
 add-guess : tie.Need-add-guess
 add-guess c = search needs
@@ -52,7 +56,8 @@ is-entry-requires c κs =
     let r = c .before .before .before .before .before .before .before .args .row in
     let text = c .before .before .before .before .before .before .before .args .text .now in
     let h = content-text (r .kind) (omega (arith, p .1)) in
-    let fine = bad-content text r h ∙ sym (c .before .before .before .before .before .is-bad .ensures) ∙ c .before .before .before .before .if1 .left in
+    let fine = bad-content text r h ∙ sym (c .before .before .before .before .before .is-bad .ensures)
+    ∙ c .before .before .before .before .if1 .left in
     let i = inside text r fine h in
     (p .2 .table .size, p .2 .table .few, p .1, kind-most text r fine, omega (arith, i, p .0 .short), omega (arith, i, p .0 .short))
 
@@ -64,9 +69,16 @@ returns-3 c = λ xs a.
     let p = c .before .before .before .before .before .before .before .before .before .before .before .pre in
     let r = c .before .before .before .before .before .before .before .before .before .before .before .args .row in
     let text = c .before .before .before .before .before .before .before .before .before .before .before .args .text .now in
-    let fine = bad-content text r (content-text (r .kind) (omega (arith, p .1))) ∙ sym (c .before .before .before .before .before .before .before .before .before .is-bad .ensures) ∙ c .before .before .before .before .before .before .before .before .if1 .left in
+    let fine = bad-content text r (content-text (r .kind) (omega (arith, p .1)))
+    ∙ sym (c .before .before .before .before .before .before .before .before .before .is-bad .ensures)
+    ∙ c .before .before .before .before .before .before .before .before .if1 .left in
     let g = c .before .before .before .is-entry .ensures (c .before .before .if3 .taken) in
-    known-next a r (record { name = p .1; fine = fine; alone = sym (c .before .before .before .before .before .before .before .key-after-key .ensures) ∙ c .before .before .before .before .before .before .if2 .left }) (p .0) _ (omega (arith, g .known, p .2 .table .few))
+    known-next a r (record {
+      name = p .1;
+      fine = fine;
+      alone = sym (c .before .before .before .before .before .before .before .key-after-key .ensures)
+          ∙ c .before .before .before .before .before .before .if2 .left;
+    }) (p .0) _ (omega (arith, g .known, p .2 .table .few))
     (guessed text r (p .1) fine (p .2) g) (c .known .ensures .0) (c .known .ensures .1)
 
 looked-up-requires : tie.Need-looked-up-requires
@@ -74,8 +86,19 @@ looked-up-requires c κs =
     let p = c .before .before .before .before .before .before .before .before .before .before .before .before .pre in
     let r = c .before .before .before .before .before .before .before .before .before .before .before .before .args .row in
     let text = c .before .before .before .before .before .before .before .before .before .before .before .before .args .text .now in
-    let fine = bad-content text r (content-text (r .kind) (omega (arith, p .1))) ∙ sym (c .before .before .before .before .before .before .before .before .before .before .is-bad .ensures) ∙ c .before .before .before .before .before .before .before .before .before .if1 .left in
-    (p .0, record { name = p .1; fine = fine; alone = sym (c .before .before .before .before .before .before .before .before .key-after-key .ensures) ∙ c .before .before .before .before .before .before .before .if2 .left }, p .2, p .3)
+    let fine = bad-content text r (content-text (r .kind) (omega (arith, p .1)))
+    ∙ sym (c .before .before .before .before .before .before .before .before .before .before .is-bad .ensures)
+    ∙ c .before .before .before .before .before .before .before .before .before .if1 .left in (
+      p .0,
+      record {
+        name = p .1;
+        fine = fine;
+        alone = sym (c .before .before .before .before .before .before .before .before .key-after-key .ensures)
+            ∙ c .before .before .before .before .before .before .before .if2 .left;
+      },
+      p .2,
+      p .3,
+    )
 
 returns-4 : tie.Need-returns-4
 returns-4 c = search needs

@@ -33,7 +33,8 @@ loop-again : tie.Need-loop-again Inv-loop μ-loop
 loop-again c =
     let s = c .before .before .before in
     let st = s .args .stack .now in
-    let l = c .before .before .loop in let p = top-left st (l .d) (l .l) (c .before .loop-test .taken) (l .inv .1) in (omega arith, rw (bottom-out st (l .d) (l .l) p) at (l .inv .1), sym (close-out st (l .d) (l .l) (c .before .loop-test .taken) p) ∙ l .inv .2)
+    let l = c .before .before .loop in let p = top-left st (l .d) (l .l) (c .before .loop-test .taken) (l .inv .1) in
+    (omega arith, rw (bottom-out st (l .d) (l .l) p) at (l .inv .1), sym (close-out st (l .d) (l .l) (c .before .loop-test .taken) p) ∙ l .inv .2)
 
 sub-t11 : tie.Need-sub-t11 Inv-loop μ-loop
 sub-t11 c = omega arith

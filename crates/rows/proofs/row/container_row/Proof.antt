@@ -17,13 +17,16 @@ refuse-requires c κs = search needs
 returns : tie.Need-returns
 returns c = λ text es links plan xs a.
     let r : Row = record { kind = 8; number = c .before .before .before .args .number; start = 0 } in
-    refuse-next a r too-deep (c .refuse .ensures) (plain-deep a r (omega arith) (container-fine text (r .number)) refl (c .before .if1 .taken))
+    refuse-next a r too-deep (c .refuse .ensures)
+    (plain-deep a r (omega arith) (container-fine text (r .number)) refl (c .before .if1 .taken))
 
 header-len-requires : tie.Need-header-len-requires
 header-len-requires c κs = search needs
 
 value-requires : tie.Need-value-requires
-value-requires c κs = let p = c .before .before .before .before .before .pre in ready-more (p .1) _ (omega (arith, c .before .before .header-len .ensures, header-most 3 (c .before .before .before .before .before .args .number) (omega arith)))
+value-requires c κs = let p = c .before .before .before .before .before .pre in
+    ready-more (p .1) _ (omega
+    (arith, c .before .before .header-len .ensures, header-most 3 (c .before .before .before .before .before .args .number) (omega arith)))
 
 returns-2 : tie.Need-returns-2
 returns-2 c = λ text es links plan xs a.
@@ -32,8 +35,10 @@ returns-2 c = λ text es links plan xs a.
     let r : Row = record { kind = 8; number = n; start = 0 } in
     let h = c .before .before .before .header-len .ensures in
     value-next a r _ _ (c .value .ensures) (w .row) (omega (arith, h, header-most 3 n (omega arith)))
-    (container-none a r (omega arith) (container-fine text n) refl (c .before .before .before .before .if1 .left)) (no-key a r (omega arith))
-    (a-container a r refl ∙ ltb-no {a = 0} {b = n} (omega (arith, c .before .before .if2 .taken))) (measured-plain a r (omega arith) _ (w .row) (h ∙ container-full text n))
+    (container-none a r (omega arith) (container-fine text n) refl (c .before .before .before .before .if1 .left))
+    (no-key a r (omega arith))
+    (a-container a r refl ∙ ltb-no {a = 0} {b = n} (omega (arith, c .before .before .if2 .taken)))
+    (measured-plain a r (omega arith) _ (w .row) (h ∙ container-full text n))
 
 descend-requires : tie.Need-descend-requires
 descend-requires c κs =
@@ -47,9 +52,12 @@ returns-3 c = λ text es links plan xs a.
     let n = c .before .before .before .before .before .before .args .number in
     let r : Row = record { kind = 8; number = n; start = 0 } in
     let h = c .before .before .before .header-len .ensures in
-    open-next a r _ (c .descend .ensures .0) (c .descend .ensures .1) (c .before .before .before .before .if1 .left) (omega (arith, h, header-most 3 n (omega arith)))
-    (container-none a r (omega arith) (container-fine text n) refl (c .before .before .before .before .if1 .left)) (no-key a r (omega arith))
-    (a-container a r refl ∙ ltb-yes {a = 0} {b = n} (omega (arith, c .before .before .if2 .left))) (measured-plain a r (omega arith) _ (w .row) (h ∙ container-full text n))
+    open-next a r _ (c .descend .ensures .0) (c .descend .ensures .1) (c .before .before .before .before .if1 .left)
+    (omega (arith, h, header-most 3 n (omega arith)))
+    (container-none a r (omega arith) (container-fine text n) refl (c .before .before .before .before .if1 .left))
+    (no-key a r (omega arith))
+    (a-container a r refl ∙ ltb-yes {a = 0} {b = n} (omega (arith, c .before .before .if2 .left)))
+    (measured-plain a r (omega arith) _ (w .row) (h ∙ container-full text n))
 
 pub container-row-spec : {M : Type 1} → statement M
 container-row-spec =

@@ -23,10 +23,13 @@ returns c = λ es links plan xs a.
     let p = c .before .before .before .before .pre in
     let r = c .before .before .before .before .args .row in
     let text = c .before .before .before .before .args .text .now in
-    refuse-next a r invalid-row (c .refuse .ensures) (rule-9 text (a .progress) r (content-bad text r (p .2) (omega (arith, p .1)) ∙ sym (c .before .before .outside .ensures) ∙ c .before .if1 .taken))
+    refuse-next a r invalid-row (c .refuse .ensures)
+    (rule-9 text (a .progress) r (content-bad text r (p .2) (omega (arith, p .1))
+    ∙ sym (c .before .before .outside .ensures) ∙ c .before .if1 .taken))
 
 content-requires : tie.Need-content-requires
-content-requires c κs = let p = c .before .before .before .pre in (p .0 .short, content-bad _ (c .before .before .before .args .row) (p .2) (omega (arith, p .1)) ∙ sym (c .before .outside .ensures) ∙ c .if1 .left, p .2)
+content-requires c κs = let p = c .before .before .before .pre in
+    (p .0 .short, content-bad _ (c .before .before .before .args .row) (p .2) (omega (arith, p .1)) ∙ sym (c .before .outside .ensures) ∙ c .if1 .left, p .2)
 
 bad-text-requires : tie.Need-bad-text-requires
 bad-text-requires c κs = search needs
@@ -39,12 +42,16 @@ returns-2 c = λ es links plan xs a.
     let p = c .before .before .before .before .before .before .before .pre in
     let r = c .before .before .before .before .before .before .before .args .row in
     let text = c .before .before .before .before .before .before .before .args .text .now in
-    let fine = content-bad text r (p .2) (omega (arith, p .1)) ∙ sym (c .before .before .before .before .before .outside .ensures) ∙ c .before .before .before .before .if1 .left in
+    let fine = content-bad text r (p .2) (omega (arith, p .1))
+    ∙ sym (c .before .before .before .before .before .outside .ensures) ∙ c .before .before .before .before .if1 .left in
     refuse-next a r invalid-utf8 (c .refuse2 .ensures)
-    (plain-text a r (p .1) fine (content-kinds (r .kind) (p .2) .1 .1) (ap (λ bs. eqb (r .kind) 9 && not (utf8 bs)) (sym (c .before .before .before .content .ensures)) ∙ sym (c .before .before .bad-text .ensures) ∙ c .before .if2 .taken))
+    (plain-text a r (p .1) fine (content-kinds (r .kind) (p .2) .1 .1)
+    (ap (λ bs. eqb (r .kind) 9 && not (utf8 bs)) (sym (c .before .before .before .content .ensures))
+    ∙ sym (c .before .before .bad-text .ensures) ∙ c .before .if2 .taken))
 
 code-of-requires : tie.Need-code-of-requires
-code-of-requires c κs = let p = c .before .before .before .before .before .before .pre in omega (arith, content-kinds (c .before .before .before .before .before .before .args .row .kind) (p .2) .0)
+code-of-requires c κs = let p = c .before .before .before .before .before .before .pre in
+    omega (arith, content-kinds (c .before .before .before .before .before .before .args .row .kind) (p .2) .0)
 
 header-len-requires : tie.Need-header-len-requires
 header-len-requires c κs = search needs
@@ -54,7 +61,9 @@ add-n c =
     let p = c .before .before .before .before .before .before .before .before .pre in
     let r = c .before .before .before .before .before .before .before .before .args .row in
     let text = c .before .before .before .before .before .before .before .before .args .text .now in
-    let fine = content-bad text r (p .2) (omega (arith, p .1)) ∙ sym (c .before .before .before .before .before .before .outside .ensures) ∙ c .before .before .before .before .before .if1 .left in
+    let fine = content-bad text r (p .2) (omega (arith, p .1))
+    ∙ sym (c .before .before .before .before .before .before .outside .ensures)
+    ∙ c .before .before .before .before .before .if1 .left in
     let h = rw (c .before .code-of .ensures) at (c .header-len .ensures) in
     omega (arith, content-small text r (p .2) fine (p .0 .short) _ h)
 
@@ -63,7 +72,9 @@ value-requires c κs =
     let p = c .before .before .before .before .before .before .before .before .pre in
     let r = c .before .before .before .before .before .before .before .before .args .row in
     let text = c .before .before .before .before .before .before .before .before .args .text .now in
-    let fine = content-bad text r (p .2) (omega (arith, p .1)) ∙ sym (c .before .before .before .before .before .before .outside .ensures) ∙ c .before .before .before .before .before .if1 .left in
+    let fine = content-bad text r (p .2) (omega (arith, p .1))
+    ∙ sym (c .before .before .before .before .before .before .outside .ensures)
+    ∙ c .before .before .before .before .before .if1 .left in
     let h = rw (c .before .code-of .ensures) at (c .header-len .ensures) in
     ready-more (p .0) _ (content-small text r (p .2) fine (p .0 .short) _ h)
 
@@ -72,11 +83,15 @@ returns-3 c = λ es links plan xs a.
     let p = c .before .before .before .before .before .before .before .before .before .pre in
     let r = c .before .before .before .before .before .before .before .before .before .args .row in
     let text = c .before .before .before .before .before .before .before .before .before .args .text .now in
-    let fine = content-bad text r (p .2) (omega (arith, p .1)) ∙ sym (c .before .before .before .before .before .before .before .outside .ensures) ∙ c .before .before .before .before .before .before .if1 .left in
+    let fine = content-bad text r (p .2) (omega (arith, p .1))
+    ∙ sym (c .before .before .before .before .before .before .before .outside .ensures)
+    ∙ c .before .before .before .before .before .before .if1 .left in
     let n = content-kinds (r .kind) (p .2) .1 .1 in
     let h = rw (c .before .before .code-of .ensures) at (c .before .header-len .ensures) in
     value-next a r _ _ (c .value .ensures) (p .0 .row) (content-small text r (p .2) fine (p .0 .short) _ h)
-    (value-none a r (p .1) fine n (ap (λ bs. eqb (r .kind) 9 && not (utf8 bs)) (sym (c .before .before .before .before .before .content .ensures)) ∙ sym (c .before .before .before .before .bad-text .ensures) ∙ c .before .before .before .if2 .left))
+    (value-none a r (p .1) fine n (ap (λ bs. eqb (r .kind) 9 && not (utf8 bs))
+    (sym (c .before .before .before .before .before .content .ensures))
+    ∙ sym (c .before .before .before .before .bad-text .ensures) ∙ c .before .before .before .if2 .left))
     (no-key a r (p .1)) (no-container a r n) (measured-plain a r (p .1) _ (p .0 .row) (content-full text r (p .2) fine _ h))
 
 pub content-row-spec : {M : Type 1} → statement M

@@ -35,13 +35,19 @@ value-requires c κs = search needs
 returns-2 : tie.Need-returns-2
 returns-2 c = λ text es links plan xs a.
     let p = c .before .before .before .before .pre in
-    let r : Row = record { kind = c .before .before .before .before .args .kind; number = c .before .before .before .before .args .number; start = 0 } in
-    let fine = bad-plain text r (omega arith) (p .2) refl ∙ sym (c .before .before .before .bad-number .ensures) ∙ c .before .before .if1 .left in
+    let r : Row = record {
+      kind = c .before .before .before .before .args .kind;
+      number = c .before .before .before .before .args .number;
+      start = 0;
+    } in
+    let fine = bad-plain text r (omega arith) (p .2) refl ∙ sym (c .before .before .before .bad-number .ensures)
+    ∙ c .before .before .if1 .left in
     let w = p .0 .1 in
     value-next a r _ _ (c .value .ensures) (w .row) (omega (arith, c .before .plain-len .ensures .1))
     (value-none a r (omega arith) fine (λ e. omega arith) (and-no-left _ (eqb-no {a = r .kind} {b = 9} (λ e. omega arith))))
     (no-key a r (omega arith)) (no-container a r (λ e. omega arith))
-    (measured-plain a r (omega arith) _ (w .row) (c .before .plain-len .ensures .0 ∙ ap (λ x. length (full x)) (sym (bare text (r .kind) (r .number) (p .2)))))
+    (measured-plain a r (omega arith) _ (w .row) (c .before .plain-len .ensures .0
+    ∙ ap (λ x. length (full x)) (sym (bare text (r .kind) (r .number) (p .2)))))
 
 pub plain-row-spec : {M : Type 1} → statement M
 plain-row-spec =

@@ -53,7 +53,8 @@ returns c =
     let buffer2′ = begin′ .before in
     let buffer′ = buffer2′ .before .before in
     let start = buffer′ .before .before .before in
-    let sized = long-enough (start .args .program) _ _ (buffer′ .buffer .ensures .1) (buffer2′ .buffer2 .ensures .1) (buffer2′ .buffer2 .ensures .2) in
+    let sized = long-enough (start .args .program) _ _ (buffer′ .buffer .ensures .1) (buffer2′ .buffer2 .ensures .1)
+    (buffer2′ .buffer2 .ensures .2) in
     ran (loop′ .loop .inv .4) (start .args .before) _ (begin′ .begin .ensures) sized (inl (c .if1 .taken, refl))
 
 slice-aggregate-turn : tie.Need-slice-aggregate-turn Inv-loop μ-loop
@@ -107,8 +108,10 @@ returns-2 c =
     let buffer2′ = begin′ .before in
     let buffer′ = buffer2′ .before .before in
     let start = buffer′ .before .before .before in
-    let sized = long-enough (start .args .program) _ _ (buffer′ .buffer .ensures .1) (buffer2′ .buffer2 .ensures .1) (buffer2′ .buffer2 .ensures .2) in
-    ran (loop′ .loop .inv .4) (start .args .before) _ (begin′ .begin .ensures) sized (inr (omega (arith, loop-test′ .loop-test .left), c .fail .ensures))
+    let sized = long-enough (start .args .program) _ _ (buffer′ .buffer .ensures .1) (buffer2′ .buffer2 .ensures .1)
+    (buffer2′ .buffer2 .ensures .2) in
+    ran (loop′ .loop .inv .4) (start .args .before) _ (begin′ .begin .ensures) sized
+    (inr (omega (arith, loop-test′ .loop-test .left), c .fail .ensures))
 
 pub run-spec : {M : Type 1} → statement M
 run-spec =

@@ -8,7 +8,8 @@ use Rattle.stream.proofs.input.compact.Statement.{statement}
 use Rattle.stream.proofs.input.compact.Tie as tie
 
 abbrev Inv-loop : tie.InvT-loop
-Inv-loop buffer₀ start n i₀ buffer i = (i ≤ n) × (start + n ≤ length buffer₀) × (buffer ≡ moved start i buffer₀) × (length buffer ≡ length buffer₀)
+Inv-loop buffer₀ start n i₀ buffer i = (i ≤ n) × (start + n ≤ length buffer₀) × (buffer ≡ moved start i buffer₀)
+    × (length buffer ≡ length buffer₀)
 
 abbrev μ-loop : tie.MeasureT-loop
 μ-loop buffer₀ start n i₀ buffer i = n - i
@@ -36,16 +37,25 @@ loop-less c = omega arith
 
 loop-again : tie.Need-loop-again Inv-loop μ-loop
 loop-again c =
-    let s = c .before .before .before .before in
-    (omega arith, omega arith, rw (c .before .before .loop .inv .2) (moved-suc (s .args .w .start) (c .before .before .loop .i) (s .args .buffer .now) (omega arith)), simp length-set (c .before .before .loop .inv .3))
+    let s = c .before .before .before .before in (
+      omega arith,
+      omega arith,
+      rw (c .before .before .loop .inv .2)
+          (moved-suc (s .args .w .start) (c .before .before .loop .i) (s .args .buffer .now) (omega arith)),
+      simp length-set (c .before .before .loop .inv .3),
+    )
 
 same-length : tie.Need-same-length Inv-loop μ-loop
 same-length c = c .before .loop .inv .3
 
 returns : tie.Need-returns Inv-loop μ-loop
 returns c =
-    let s = c .before .before .before in
-    (refl, let e : c .before .loop .i ≡ s .args .w .end - s .args .w .start = omega arith in rw (c .before .loop .inv .2, e) (moved-all (s .args .w .start) (s .args .w .end - s .args .w .start) (s .args .buffer .now) (omega arith)))
+    let s = c .before .before .before in (
+      refl,
+      let e : c .before .loop .i ≡ s .args .w .end - s .args .w .start = omega arith in
+          rw (c .before .loop .inv .2, e) (moved-all (s .args .w .start) (s .args .w .end - s .args .w .start)
+          (s .args .buffer .now) (omega arith)),
+    )
 
 pub compact-spec : {M : Type 1} → statement M
 compact-spec =

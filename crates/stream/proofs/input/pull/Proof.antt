@@ -54,7 +54,8 @@ returns c =
     let compact′ = read′ .before .before .before .before in
     let s = compact′ .before .before .before .before in
     let compacted = compact′ .compact in
-    pulled (s .args .w) _ (s .args .buffer .now) (compacted .last .0) (read′ .read .last .1 .0) _ (compacted .ensures .0) (compacted .ensures .1) refl (omega arith) (omega arith) (search needs)
+    pulled (s .args .w) _ (s .args .buffer .now) (compacted .last .0) (read′ .read .last .1 .0) _
+    (compacted .ensures .0) (compacted .ensures .1) refl (omega arith) (omega arith) (search needs)
     (λ e. let zero = eqb-true (ofZ w64 (read′ .read .result)) 0 e in let none = rw zero at (c .count .ensures .1) in omega (arith, none))
 
 pub pull-spec : {M : Type 1} → statement M

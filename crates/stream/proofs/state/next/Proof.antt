@@ -15,7 +15,8 @@ returns-2 : tie.Need-returns-2
 returns-2 c =
     let s = c .before .before .before .before in
     let w = s .args .s .window in
-    takes-last _ (c .before .if1 .taken) (λ z. let p = s .pre in absurd (omega (arith, z, part-length (w .start) (w .end) (s .args .input .now) (p .1))))
+    takes-last _ (c .before .if1 .taken) (λ z. let p = s .pre in
+    absurd (omega (arith, z, part-length (w .start) (w .end) (s .args .input .now) (p .1))))
 
 sub-missing : tie.Need-sub-missing
 sub-missing c = search needs

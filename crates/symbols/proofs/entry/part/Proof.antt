@@ -14,7 +14,8 @@ len-requires : tie.Need-len-requires
 len-requires c κs = search needs
 
 pick-requires : tie.Need-pick-requires
-pick-requires c κs = rw (c .before .before .side .ensures, c .before .start .ensures, c .len .ensures) (c .before .before .before .before .before .pre .inside)
+pick-requires c κs = rw (c .before .before .side .ensures, c .before .start .ensures, c .len .ensures)
+    (c .before .before .before .before .before .pre .inside)
 
 returns : tie.Need-returns
 unfolding partIn

@@ -7,7 +7,8 @@ use Rattle.symbols.proofs.entry.pick.Statement.{statement}
 use Rattle.symbols.proofs.entry.pick.Tie as tie
 
 add-result : tie.Need-add-result
-add-result c = let h = rw (side-first (c .before .args .side) (c .before .args .first .now) (c .before .args .second .now) (c .if1 .taken)) at (c .before .pre) in omega arith
+add-result c = let h = rw (side-first (c .before .args .side) (c .before .args .first .now)
+    (c .before .args .second .now) (c .if1 .taken)) at (c .before .pre) in omega arith
 
 sub-result : tie.Need-sub-result
 sub-result c = search needs
@@ -16,10 +17,12 @@ part-result-start : tie.Need-part-result-start
 part-result-start c = search needs
 
 part-result-end : tie.Need-part-result-end
-part-result-end c = let h = rw (side-first (c .before .args .side) (c .before .args .first .now) (c .before .args .second .now) (c .if1 .taken)) at (c .before .pre) in omega arith
+part-result-end c = let h = rw (side-first (c .before .args .side) (c .before .args .first .now)
+    (c .before .args .second .now) (c .if1 .taken)) at (c .before .pre) in omega arith
 
 add-result-2 : tie.Need-add-result-2
-add-result-2 c = let h = rw (side-second (c .before .args .side) (c .before .args .first .now) (c .before .args .second .now) (c .if1 .left)) at (c .before .pre) in omega arith
+add-result-2 c = let h = rw (side-second (c .before .args .side) (c .before .args .first .now)
+    (c .before .args .second .now) (c .if1 .left)) at (c .before .pre) in omega arith
 
 sub-result-2 : tie.Need-sub-result-2
 sub-result-2 c = search needs
@@ -28,7 +31,8 @@ part-result-start-2 : tie.Need-part-result-start-2
 part-result-start-2 c = search needs
 
 part-result-end-2 : tie.Need-part-result-end-2
-part-result-end-2 c = let h = rw (side-second (c .before .args .side) (c .before .args .first .now) (c .before .args .second .now) (c .if1 .left)) at (c .before .pre) in omega arith
+part-result-end-2 c = let h = rw (side-second (c .before .args .side) (c .before .args .first .now)
+    (c .before .args .second .now) (c .if1 .left)) at (c .before .pre) in omega arith
 
 returns : tie.Need-returns
 returns c = rw (add-sub-cancel-left, side-first _ _ _ (c .before .if1 .taken))

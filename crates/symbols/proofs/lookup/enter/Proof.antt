@@ -42,7 +42,8 @@ element-write-links-2 : tie.Need-element-write-links-2
 element-write-links-2 c = search needs
 
 returns : tie.Need-returns
-returns c = let p = c .before .before .before .before .pre in (refl, rw (c .before .bucket .ensures) (chain-more (p .0) (p .1) (p .2) (p .3)))
+returns c = let p = c .before .before .before .before .pre in
+    (refl, rw (c .before .bucket .ensures) (chain-more (p .0) (p .1) (p .2) (p .3)))
 
 pub enter-spec : {M : Type 1} → statement M
 enter-spec =

@@ -23,7 +23,8 @@ element-copy-out-v : tie.Need-element-copy-out-v Inv-loop μ-loop
 element-copy-out-v c = omega arith
 
 loop-holds : tie.Need-loop-holds Inv-loop μ-loop
-loop-holds c = let p = c .before .before .before .before .before .pre in rw (c .before .bucket .ensures) (along-start _ (p .0) (p .1) (p .2) (p .3))
+loop-holds c = let p = c .before .before .before .before .before .pre in
+    rw (c .before .bucket .ensures) (along-start _ (p .0) (p .1) (p .2) (p .3))
 
 sub-i : tie.Need-sub-i Inv-loop μ-loop
 sub-i c = omega arith
@@ -39,14 +40,21 @@ element-copy-out-is-name c = omega arith
 
 is-name-requires : tie.Need-is-name-requires Inv-loop μ-loop
 is-name-requires c κs =
-    let p = c .before .before .before .before .before .before .before .before .pre in
-    (p .0 .table .sound (c .before .before .loop .v - 1) (omega (arith, c .before .before .loop .inv .within, c .before .loop-test .taken)), p .1, p .2, p .3, p .4)
+    let p = c .before .before .before .before .before .before .before .before .pre in (
+      p .0 .table .sound (c .before .before .loop .v - 1)
+          (omega (arith, c .before .before .loop .inv .within, c .before .loop-test .taken)),
+      p .1,
+      p .2,
+      p .3,
+      p .4,
+    )
 
 returns : tie.Need-returns Inv-loop μ-loop
 returns c =
     let h = sym (c .before .is-name .ensures) ∙ c .if1 .taken in
     let p = c .before .before .before .before .before .before .before .before .before .before .pre in
-    found-at (along-hit _ (p .0) (p .1) (p .2) (p .3) (c .before .before .before .before .loop .inv) (c .before .before .before .loop-test .taken) h)
+    found-at (along-hit _ (p .0) (p .1) (p .2) (p .3) (c .before .before .before .before .loop .inv)
+    (c .before .before .before .loop-test .taken) h)
 
 add-v : tie.Need-add-v Inv-loop μ-loop
 add-v c = omega arith
@@ -60,16 +68,19 @@ element-copy-out-v-2 c = omega arith
 loop-less : tie.Need-loop-less Inv-loop μ-loop
 loop-less c =
     let p = c .before .before .before .before .before .before .before .before .before .before .before .pre in
-    along-less _ (p .0) (p .1) (p .2) (p .3) (c .before .before .before .before .before .loop .inv) (c .before .before .before .before .loop-test .taken)
+    along-less _ (p .0) (p .1) (p .2) (p .3) (c .before .before .before .before .before .loop .inv)
+    (c .before .before .before .before .loop-test .taken)
 
 loop-again : tie.Need-loop-again Inv-loop μ-loop
 loop-again c =
     let h = sym (c .before .before .is-name .ensures) ∙ c .before .if1 .left in
     let p = c .before .before .before .before .before .before .before .before .before .before .before .pre in
-    along-next _ (p .0) (p .1) (p .2) (p .3) (c .before .before .before .before .before .loop .inv) (c .before .before .before .before .loop-test .taken) h
+    along-next _ (p .0) (p .1) (p .2) (p .3) (c .before .before .before .before .before .loop .inv)
+    (c .before .before .before .before .loop-test .taken) h
 
 returns-2 : tie.Need-returns-2 Inv-loop μ-loop
-returns-2 c = let p = c .before .before .before .before .before .before .before .pre in found-none (along-end _ (p .0) (p .1) (p .2) (p .3) (c .before .loop .inv) (omega arith))
+returns-2 c = let p = c .before .before .before .before .before .before .before .pre in
+    found-none (along-end _ (p .0) (p .1) (p .2) (p .3) (c .before .loop .inv) (omega arith))
 
 pub find-spec : {M : Type 1} → statement M
 find-spec =

@@ -31,7 +31,9 @@ enter-requires c κs = let p = c .before .before .before .before .before .before
       c .before .before .before .before .before .before .before .before .before .before .before .before .pre .0,
       c .before .before .before .if1 .left,
       rw (c .pack .ensures) (packed-sound _ _ _ _ _ _ _ k (p .low) (p .high) (p .short) (p .sides) (p .inside) (p .is)),
-      rw (c .pack .ensures, packed-name _ _ _ _ _ _ _ k (p .low) (p .high) (p .short) (p .sides) (p .inside) (p .is)) (found-nothing _ (rw (c .before .before .before .before .enum-told .given .1) at (c .before .before .before .before .before .before .find .ensures))),
+      rw (c .pack .ensures, packed-name _ _ _ _ _ _ _ k (p .low) (p .high) (p .short) (p .sides) (p .inside) (p .is))
+          (found-nothing _ (rw (c .before .before .before .before .enum-told .given .1)
+          at (c .before .before .before .before .before .before .find .ensures))),
     )
 
 returns-2 : tie.Need-returns-2
@@ -46,7 +48,8 @@ returns-3 c = let p = c .before .before .before .before .before .before .before 
     let k = c .before .before .before .before .before .before .before .before .before .before .before .before .before .pre .2 in
     let e = c .before .pack .ensures in
     record {
-      new = found-nothing _ (rw (c .before .before .before .before .before .enum-told .given .1) at (c .before .before .before .before .before .before .before .find .ensures));
+      new = found-nothing _ (rw (c .before .before .before .before .before .enum-told .given .1)
+          at (c .before .before .before .before .before .before .before .find .ensures));
       room = c .before .before .before .before .if1 .left;
       entry = _;
       stored = c .enter .ensures .0;

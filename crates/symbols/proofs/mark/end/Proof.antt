@@ -33,8 +33,18 @@ returns : tie.Need-returns
 returns c =
     let s = c .before .before .before .before .before .before .before .before in
     let number′ = c .before .before .before .before .before .number in
-    let a = s .args in
-    (sym (end-eight (a .h) (a .s .now) (omega arith) ∙ rw (c .mix2 .ensures .0, c .before .number4 .ensures, c .before .before .number3 .ensures, c .before .before .before .mix .ensures .0, c .before .before .before .before .number2 .ensures, number′ .ensures)), c .mix2 .ensures .1)
+    let a = s .args in (
+      sym (end-eight (a .h) (a .s .now) (omega arith)
+          ∙ rw (
+            c .mix2 .ensures .0,
+            c .before .number4 .ensures,
+            c .before .before .number3 .ensures,
+            c .before .before .before .mix .ensures .0,
+            c .before .before .before .before .number2 .ensures,
+            number′ .ensures,
+          )),
+      c .mix2 .ensures .1,
+    )
 
 number-requires-5 : tie.Need-number-requires-5
 number-requires-5 c κs = search needs
@@ -47,8 +57,11 @@ mix-requires-3 c κs = search needs
 
 returns-2 : tie.Need-returns-2
 returns-2 c =
-    let a = c .before .before .before .before .before .before .args in
-    (sym (end-four (a .h) (a .s .now) (omega arith) (omega arith) ∙ rw (c .mix3 .ensures .0, c .before .number6 .ensures, c .before .before .number5 .ensures)), c .mix3 .ensures .1)
+    let a = c .before .before .before .before .before .before .args in (
+      sym (end-four (a .h) (a .s .now) (omega arith) (omega arith)
+          ∙ rw (c .mix3 .ensures .0, c .before .number6 .ensures, c .before .before .number5 .ensures)),
+      c .mix3 .ensures .1,
+    )
 
 mix-requires-4 : tie.Need-mix-requires-4
 mix-requires-4 c κs = search needs

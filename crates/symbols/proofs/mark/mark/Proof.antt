@@ -41,8 +41,12 @@ loop-less c = omega arith
 loop-again : tie.Need-loop-again Inv-loop μ-loop
 loop-again c =
     let s = c .before .before .before .before .before .before .args .s .now in
-    let l = c .before .before .before .before .loop in
-    (omega arith, c .mix .ensures .1, l .inv .2 ∙ mark-eight s (l .i) _ (omega arith) ∙ rw (c .mix .ensures .0, c .before .number2 .ensures, c .before .before .number .ensures))
+    let l = c .before .before .before .before .loop in (
+      omega arith,
+      c .mix .ensures .1,
+      l .inv .2 ∙ mark-eight s (l .i) _ (omega arith)
+          ∙ rw (c .mix .ensures .0, c .before .number2 .ensures, c .before .before .number .ensures),
+    )
 
 sub-end : tie.Need-sub-end Inv-loop μ-loop
 sub-end c = omega arith

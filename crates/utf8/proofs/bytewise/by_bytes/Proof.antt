@@ -29,19 +29,28 @@ leads-requires : tie.Need-leads-requires Inv-loop μ-loop
 leads-requires c κs = search needs
 
 returns : tie.Need-returns Inv-loop μ-loop
-returns c = sym (c .before .before .before .before .before .loop .inv .1 ∙ no-lead _ _ (c .before .before .before .before .loop-test .taken) _ _ (c .before .before .if1 .taken) (c .before .leads .ensures) (c .if2 .taken))
+returns c = sym (c .before .before .before .before .before .loop .inv .1
+    ∙ no-lead _ _ (c .before .before .before .before .loop-test .taken) _ _ (c .before .before .if1 .taken)
+    (c .before .leads .ensures) (c .if2 .taken))
 
 loop-less : tie.Need-loop-less Inv-loop μ-loop
 loop-less c = search needs
 
 loop-again : tie.Need-loop-again Inv-loop μ-loop
-loop-again c = (search needs, c .before .before .before .before .before .loop .inv .1 ∙ lead _ _ (c .before .before .before .before .loop-test .taken) _ _ (c .before .before .if1 .taken) (c .before .leads .ensures) (c .if2 .left))
+loop-again c = (
+  search needs,
+  c .before .before .before .before .before .loop .inv .1
+      ∙ lead _ _ (c .before .before .before .before .loop-test .taken) _ _ (c .before .before .if1 .taken)
+      (c .before .leads .ensures) (c .if2 .left),
+)
 
 returns-2 : tie.Need-returns-2 Inv-loop μ-loop
-returns-2 c = sym (c .before .before .before .before .loop .inv .1 ∙ no-tail _ _ (c .before .before .before .loop-test .taken) _ (c .before .if1 .left) (λ l. absurd (omega arith)))
+returns-2 c = sym (c .before .before .before .before .loop .inv .1
+    ∙ no-tail _ _ (c .before .before .before .loop-test .taken) _ (c .before .if1 .left) (λ l. absurd (omega arith)))
 
 returns-3 : tie.Need-returns-3 Inv-loop μ-loop
-returns-3 c = sym (c .before .before .before .before .before .loop .inv .1 ∙ no-tail _ _ (c .before .before .before .before .loop-test .taken) _ (c .before .before .if1 .left) (λ _. c .if4 .taken))
+returns-3 c = sym (c .before .before .before .before .before .loop .inv .1
+    ∙ no-tail _ _ (c .before .before .before .before .loop-test .taken) _ (c .before .before .if1 .left) (λ _. c .if4 .taken))
 
 sub-k : tie.Need-sub-k Inv-loop μ-loop
 sub-k c = search needs
@@ -50,7 +59,12 @@ loop-less-2 : tie.Need-loop-less-2 Inv-loop μ-loop
 loop-less-2 c = search needs
 
 loop-again-2 : tie.Need-loop-again-2 Inv-loop μ-loop
-loop-again-2 c = (search needs, c .before .before .before .before .before .loop .inv .1 ∙ tail _ _ (c .before .before .before .before .loop-test .taken) _ (c .before .before .if1 .left) (c .before .if3 .left) (c .if4 .left))
+loop-again-2 c = (
+  search needs,
+  c .before .before .before .before .before .loop .inv .1
+      ∙ tail _ _ (c .before .before .before .before .loop-test .taken) _ (c .before .before .if1 .left)
+      (c .before .if3 .left) (c .if4 .left),
+)
 
 returns-4 : tie.Need-returns-4 Inv-loop μ-loop
 returns-4 c = sym (c .before .loop .inv .1 ∙ none-left _ _ _ (c .loop-test .left))

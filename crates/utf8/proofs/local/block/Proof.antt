@@ -54,7 +54,11 @@ loop-less c = search needs
 
 loop-again : tie.Need-loop-again Inv-loop μ-loop
 unfolding passesAt
-loop-again c = (search needs, checked-more (c .before .before .before .before .before .before .before .before .args .s .now) _ _ _ _ (omega arith) (c .may-follow .ensures) (c .before .before .before .before .before .before .loop .inv .1))
+loop-again c = (
+  search needs,
+  checked-more (c .before .before .before .before .before .before .before .before .args .s .now) _ _ _ _
+      (omega arith) (c .may-follow .ensures) (c .before .before .before .before .before .before .loop .inv .1),
+)
 
 returns : tie.Need-returns Inv-loop μ-loop
 returns c = let h : c .before .loop .j ≡ c .before .before .before .args .n = omega arith in rw h at (c .before .loop .inv .1)

@@ -29,13 +29,17 @@ block-requires : tie.Need-block-requires Inv-loop μ-loop
 block-requires c κs = search needs
 
 returns : tie.Need-returns Inv-loop μ-loop
-returns c = passed (c .before .before .before .before .before .args .s .now) (c .before .before .before .loop .i) (c .before .before .smaller .result) (omega arith) (omega arith) (c .before .before .before .loop .inv) ∙ c .before .block .ensures .1 (not-true _ (c .if1 .taken))
+returns c = passed (c .before .before .before .before .before .args .s .now) (c .before .before .before .loop .i)
+    (c .before .before .smaller .result) (omega arith) (omega arith) (c .before .before .before .loop .inv)
+    ∙ c .before .block .ensures .1 (not-true _ (c .if1 .taken))
 
 returns-2 : tie.Need-returns-2 Inv-loop μ-loop
 returns-2 c =
     let s = c .before .before .before .before .before .before in
     let loop′ = c .before .before .before .before .loop in
-    passed (s .args .s .now) _ _ (omega arith) (omega arith) (onward (s .args .s .now) (loop′ .i) (c .before .before .before .smaller .result) _ (omega arith) (loop′ .inv) (c .before .before .block .ensures .0 (not-false _ (c .before .if1 .left))))
+    passed (s .args .s .now) _ _ (omega arith) (omega arith)
+    (onward (s .args .s .now) (loop′ .i) (c .before .before .before .smaller .result) _ (omega arith) (loop′ .inv)
+    (c .before .before .block .ensures .0 (not-false _ (c .before .if1 .left))))
 
 add-i : tie.Need-add-i Inv-loop μ-loop
 add-i c = search needs
@@ -47,7 +51,8 @@ loop-again : tie.Need-loop-again Inv-loop μ-loop
 loop-again c =
     let s = c .before .before .before .before .before .before in
     let loop′ = c .before .before .before .before .loop in
-    onward (s .args .s .now) (loop′ .i) (c .before .before .before .smaller .result) _ (omega arith) (loop′ .inv) (c .before .before .block .ensures .0 (not-false _ (c .before .if1 .left)))
+    onward (s .args .s .now) (loop′ .i) (c .before .before .before .smaller .result) _ (omega arith) (loop′ .inv)
+    (c .before .before .block .ensures .0 (not-false _ (c .before .if1 .left)))
 
 pub blocks-spec : {M : Type 1} → statement M
 blocks-spec =

@@ -23,7 +23,8 @@ may-follow-requires-3 : tie.Need-may-follow-requires-3
 may-follow-requires-3 c κs = search needs
 
 returns : tie.Need-returns
-returns c = rw (c .before .before .may-follow .ensures, c .before .may-follow2 .ensures, c .may-follow3 .ensures) (started _ (c .before .before .before .before .before .before .before .pre))
+returns c = rw (c .before .before .may-follow .ensures, c .before .may-follow2 .ensures, c .may-follow3 .ensures)
+    (started _ (c .before .before .before .before .before .before .before .pre))
 
 pub starts-spec : {M : Type 1} → statement M
 starts-spec =

@@ -28,7 +28,8 @@ shared-slice-read-if2-2 : tie.Need-shared-slice-read-if2-2 Inv-loop μ-loop
 shared-slice-read-if2-2 c = omega arith
 
 returns-2 : tie.Need-returns-2 Inv-loop μ-loop
-returns-2 c = sym (c .before .before .before .before .loop .inv .2 ∙ differs _ _ (c .before .before .before .before .loop .i) (omega arith) (omega arith) (c .if2 .taken))
+returns-2 c = sym (c .before .before .before .before .loop .inv .2
+    ∙ differs _ _ (c .before .before .before .before .loop .i) (omega arith) (omega arith) (c .if2 .taken))
 
 add-i : tie.Need-add-i Inv-loop μ-loop
 add-i c = omega arith
@@ -40,7 +41,8 @@ loop-again : tie.Need-loop-again Inv-loop μ-loop
 loop-again c = (
   omega arith,
   search needs,
-  c .before .before .before .before .loop .inv .2 ∙ agrees _ _ (c .before .before .before .before .loop .i) (omega arith) (omega arith) (c .if2 .left),
+  c .before .before .before .before .loop .inv .2
+      ∙ agrees _ _ (c .before .before .before .before .loop .i) (omega arith) (omega arith) (c .if2 .left),
 )
 
 returns-3 : tie.Need-returns-3 Inv-loop μ-loop

@@ -26,7 +26,8 @@ returns-3 : tie.Need-returns-3
 unfolding numberOf pick
 returns-3 c =
     let p = c .before .args .p in
-    equal (c .before .args .code) Code.negative (λ e. let m : min p (negative-alias - 1) ≡ p = omega arith in rw (eqb-yes e, m)) (λ n. rw (eqb-no n))
+    equal (c .before .args .code) Code.negative (λ e. let m : min p (negative-alias - 1) ≡ p = omega arith in
+    rw (eqb-yes e, m)) (λ n. rw (eqb-no n))
 
 pub number-of-spec : {M : Type 1} → statement M
 number-of-spec = tie.close (tie.spec sub-result returns returns-2 returns-3)

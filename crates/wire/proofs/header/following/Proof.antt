@@ -19,11 +19,21 @@ returns-2 c = simp (le-ltb _ _ (c .before .before .if1 .left), eq-eqb _ _ (c .be
 
 returns-3 : tie.Need-returns-3
 unfolding following pick
-returns-3 c = simp (le-ltb _ _ (c .before .before .before .if1 .left), eq-eqb _ _ (c .before .before .if2 .taken), ne-eqb _ _ (c .before .if3 .left), eq-eqb _ _ (c .if4 .taken))
+returns-3 c = simp (
+  le-ltb _ _ (c .before .before .before .if1 .left),
+  eq-eqb _ _ (c .before .before .if2 .taken),
+  ne-eqb _ _ (c .before .if3 .left),
+  eq-eqb _ _ (c .if4 .taken),
+)
 
 returns-4 : tie.Need-returns-4
 unfolding following pick
-returns-4 c = simp (le-ltb _ _ (c .before .before .before .if1 .left), eq-eqb _ _ (c .before .before .if2 .taken), ne-eqb _ _ (c .before .if3 .left), ne-eqb _ _ (c .if4 .left))
+returns-4 c = simp (
+  le-ltb _ _ (c .before .before .before .if1 .left),
+  eq-eqb _ _ (c .before .before .if2 .taken),
+  ne-eqb _ _ (c .before .if3 .left),
+  ne-eqb _ _ (c .if4 .left),
+)
 
 returns-5 : tie.Need-returns-5
 unfolding following pick

@@ -24,7 +24,9 @@ new-requires : tie.Need-new-requires
 new-requires c κs = search needs
 
 returns-2 : tie.Need-returns-2
-returns-2 c = ap some (c .new .ensures) ∙ sym (inline-header _ _ (c .before .before .before .before .if1 .left) (c .before .before .if2 .taken) (c .before .if3 .taken))
+returns-2 c = ap some (c .new .ensures)
+    ∙ sym (inline-header _ _ (c .before .before .before .before .if1 .left) (c .before .before .if2 .taken)
+    (c .before .if3 .taken))
 
 following-requires : tie.Need-following-requires
 following-requires c κs = search needs
@@ -47,7 +49,10 @@ new-requires-2 c κs = search needs
 returns-4 : tie.Need-returns-4
 returns-4 c =
     let d = c .before in
-    ap some (c .new2 .ensures) ∙ sym (whole-header _ _ (d .before .before .before .before .before .before .if1 .left) _ (d .before .before .before .following .ensures) (d .before .before .if4 .left) _ _ (d .inline-payload .ensures ∙ sym (payload-inside _ _ _ _ (d .before .if5 .taken))) (omega arith))
+    ap some (c .new2 .ensures)
+    ∙ sym (whole-header _ _ (d .before .before .before .before .before .before .if1 .left) _
+    (d .before .before .before .following .ensures) (d .before .before .if4 .left) _ _ (d .inline-payload .ensures
+    ∙ sym (payload-inside _ _ _ _ (d .before .if5 .taken))) (omega arith))
 
 payload-requires : tie.Need-payload-requires
 payload-requires c κs = (omega arith, omega arith, rw (c .before .before .following .ensures) (following-le _ _ (omega arith)))
@@ -61,7 +66,10 @@ new-requires-3 c κs = search needs
 returns-5 : tie.Need-returns-5
 returns-5 c =
     let d = c .before in
-    ap some (c .new3 .ensures) ∙ sym (whole-header _ _ (d .before .before .before .before .before .before .if1 .left) _ (d .before .before .before .following .ensures) (d .before .before .if4 .left) _ _ (d .payload .ensures ∙ sym (payload-after _ _ _ _ (d .before .if5 .left))) refl)
+    ap some (c .new3 .ensures)
+    ∙ sym (whole-header _ _ (d .before .before .before .before .before .before .if1 .left) _
+    (d .before .before .before .following .ensures) (d .before .before .if4 .left) _ _ (d .payload .ensures
+    ∙ sym (payload-after _ _ _ _ (d .before .if5 .left))) refl)
 
 pub header-at-spec : {M : Type 1} → statement M
 header-at-spec =

@@ -21,7 +21,8 @@ add-result : tie.Need-add-result
 add-result c = omega (arith, c .before .width .ensures, width-holds _ (c .before .before .before .fits .p .fits) .most, c .reaches .ensures .1)
 
 returns : tie.Need-returns
-returns c = rw (c .before .width .ensures, c .reaches .ensures .0) (sym (length-sum _ _ 19 (omega (arith, shift-zero _ (c .before .before .if1 .taken)))))
+returns c = rw (c .before .width .ensures, c .reaches .ensures .0)
+    (sym (length-sum _ _ 19 (omega (arith, shift-zero _ (c .before .before .if1 .taken)))))
 
 width-requires-2 : tie.Need-width-requires-2
 width-requires-2 c κs = search needs
@@ -36,7 +37,8 @@ add-result-2 : tie.Need-add-result-2
 add-result-2 c = omega (arith, c .before .width2 .ensures, width-holds _ (c .before .before .before .fits .p .fits) .most, c .reaches2 .ensures .1)
 
 returns-2 : tie.Need-returns-2
-returns-2 c = rw (c .before .width2 .ensures, c .reaches2 .ensures .0) (sym (length-sum _ _ 24 (omega (arith, shift-other _ (c .before .before .if1 .left)))))
+returns-2 c = rw (c .before .width2 .ensures, c .reaches2 .ensures .0)
+    (sym (length-sum _ _ 24 (omega (arith, shift-other _ (c .before .before .if1 .left)))))
 
 pub header-len-spec : {M : Type 1} → statement M
 header-len-spec =

@@ -1,4 +1,5 @@
--- `is_long` asks only where the payload stands in following bytes; after one such byte, whether it would stand in the lead byte. Assumes nothing.
+-- `is_long` asks only where the payload stands in following bytes; after one such byte, whether it would stand in the
+-- lead byte. Assumes nothing.
 use mathlib.Core.Path.{sym, _∙_}
 use Rattle.format.specs.Header.{isLong}
 use Rattle.format.proofs.Tests.{ltb-yes, ltb-no}

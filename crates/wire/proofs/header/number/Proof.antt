@@ -49,11 +49,17 @@ loop-less c = search needs
 loop-again : tie.Need-loop-again Inv-loop μ-loop
 loop-again c =
     let s = c .before .before .before in
-    let loop′ = c .before .before .loop in
-    (omega arith, ap (λ (x : ℕ). x * 256 + getD (s .args .s .now) (s .args .a + loop′ .i) 0) (loop′ .inv .1) ∙ sym (bigEndian-step (s .args .s .now) (s .args .a) (loop′ .i) (omega arith)), more (loop′ .p) (getD (s .args .s .now) (s .args .a + loop′ .i) 0) (loop′ .i) (loop′ .inv .2) (omega (arith, c .shared-slice-known .given (s .args .a + loop′ .i))))
+    let loop′ = c .before .before .loop in (
+      omega arith,
+      ap (λ (x : ℕ). x * 256 + getD (s .args .s .now) (s .args .a + loop′ .i) 0) (loop′ .inv .1)
+          ∙ sym (bigEndian-step (s .args .s .now) (s .args .a) (loop′ .i) (omega arith)),
+      more (loop′ .p) (getD (s .args .s .now) (s .args .a + loop′ .i) 0) (loop′ .i) (loop′ .inv .2)
+          (omega (arith, c .shared-slice-known .given (s .args .a + loop′ .i))),
+    )
 
 returns : tie.Need-returns Inv-loop μ-loop
-returns c = let e : c .before .loop .i ≡ c .before .before .args .n = omega arith in c .before .loop .inv .1 ∙ ap (λ (x : ℕ). bigEndian 0 (take x (drop (c .before .before .args .a) (c .before .before .args .s .now)))) e
+returns c = let e : c .before .loop .i ≡ c .before .before .args .n = omega arith in c .before .loop .inv .1
+    ∙ ap (λ (x : ℕ). bigEndian 0 (take x (drop (c .before .before .args .a) (c .before .before .args .s .now)))) e
 
 pub number-spec : {M : Type 1} → statement M
 number-spec =

@@ -15,7 +15,8 @@ cast-result : tie.Need-cast-result
 cast-result c = omega (arith, c .shared-slice-known2 .given (c .before .before .before .args .a))
 
 returns : tie.Need-returns
-returns c = bigEndian-one (c .before .before .before .args .s .now) (c .before .before .before .args .a) _ (c .before .if1 .taken) (omega arith)
+returns c = bigEndian-one (c .before .before .before .args .s .now) (c .before .before .before .args .a) _
+    (c .before .if1 .taken) (omega arith)
 
 sub-span : tie.Need-sub-span
 sub-span c = search needs
@@ -38,7 +39,10 @@ shr-result c = search needs
 returns-2 : tie.Need-returns-2
 returns-2 c =
     let s = c .before .before .before .before in
-    ap (λ (x : ℕ). x / 2 ^ (8 * (c .before .span .result - s .args .n))) (c .number .ensures) ∙ first-bytes (s .args .s .now) (s .args .a) (s .args .n) (c .before .span .result) (λ i. omega (arith, c .before .before .before .shared-slice-known .given i)) (omega (arith, c .before .span .ensures)) (c .before .span .ensures .0)
+    ap (λ (x : ℕ). x / 2 ^ (8 * (c .before .span .result - s .args .n))) (c .number .ensures)
+    ∙ first-bytes (s .args .s .now) (s .args .a) (s .args .n) (c .before .span .result)
+    (λ i. omega (arith, c .before .before .before .shared-slice-known .given i))
+    (omega (arith, c .before .span .ensures)) (c .before .span .ensures .0)
 
 pub payload-spec : {M : Type 1} → statement M
 payload-spec =

@@ -51,7 +51,15 @@ returns c =
     let s = c .before .before .before .before .before .before .before in
     let reaches2′ = c .before .before .before .before .before .reaches2 in
     let reaches′ = c .before .before .before .before .before .before .reaches in
-    rw (c .reaches7 .ensures .0, c .before .reaches6 .ensures .0, c .before .before .reaches5 .ensures .0, c .before .before .before .reaches4 .ensures .0, c .before .before .before .before .reaches3 .ensures .0, reaches2′ .ensures .0, reaches′ .ensures .0) (width-is (s .args .p))
+    rw (
+      c .reaches7 .ensures .0,
+      c .before .reaches6 .ensures .0,
+      c .before .before .reaches5 .ensures .0,
+      c .before .before .before .reaches4 .ensures .0,
+      c .before .before .before .before .reaches3 .ensures .0,
+      reaches2′ .ensures .0,
+      reaches′ .ensures .0,
+    ) (width-is (s .args .p))
 
 pub width-spec : {M : Type 1} → statement M
 width-spec =

@@ -30,13 +30,19 @@ loop-less : tie.Need-loop-less Inv-loop μ-loop
 loop-less c = search needs
 
 loop-again : tie.Need-loop-again Inv-loop μ-loop
-loop-again c = (omega arith, byte-as (c .before .before .loop .inv .1) (rest-step _ (c .before .before .loop .n) (c .before .loop-test .taken)) (omega (arith, c .before .before .loop .inv .1 .long)))
+loop-again c = (
+  omega arith,
+  byte-as (c .before .before .loop .inv .1)
+      (rest-step _ (c .before .before .loop .n) (c .before .loop-test .taken))
+      (omega (arith, c .before .before .loop .inv .1 .long)),
+)
 
 same-length : tie.Need-same-length Inv-loop μ-loop
 same-length c = c .before .loop .inv .1 .long
 
 returns : tie.Need-returns Inv-loop μ-loop
-returns c = finish-as (c .before .loop .inv .1) (rest-end _ (c .before .loop .n) (omega arith)) (omega (arith, c .before .loop .inv .1 .long))
+returns c = finish-as (c .before .loop .inv .1) (rest-end _ (c .before .loop .n) (omega arith))
+    (omega (arith, c .before .loop .inv .1 .long))
 
 pub copy-spec : {M : Type 1} → statement M
 copy-spec =

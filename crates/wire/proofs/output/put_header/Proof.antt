@@ -25,7 +25,8 @@ same-length : tie.Need-same-length
 same-length c = search needs
 
 returns : tie.Need-returns
-returns c = put-short _ _ _ (c .before .before .before .before .pre .1) _ (ltb-true _ _ (sym (c .before .before .is-inline .ensures) ∙ c .before .if1 .taken)) (c .inline-lead .ensures)
+returns c = put-short _ _ _ (c .before .before .before .before .pre .1) _
+    (ltb-true _ _ (sym (c .before .before .is-inline .ensures) ∙ c .before .if1 .taken)) (c .inline-lead .ensures)
 
 mul-out : tie.Need-mul-out
 mul-out c = search needs
@@ -46,13 +47,15 @@ cast-out-2 : tie.Need-cast-out-2
 cast-out-2 c = search needs
 
 slice-write-out-3 : tie.Need-slice-write-out-3
-slice-write-out-3 c = simp length-set (omega (arith, ap length (header-two _ _ (ltb-false _ _ (sym (c .before .before .is-inline .ensures) ∙ c .before .if1 .left)) (c .if2 .taken))))
+slice-write-out-3 c = simp length-set
+    (omega (arith, ap length (header-two _ _ (ltb-false _ _ (sym (c .before .before .is-inline .ensures) ∙ c .before .if1 .left)) (c .if2 .taken))))
 
 same-length-2 : tie.Need-same-length-2
 same-length-2 c = search needs
 
 returns-2 : tie.Need-returns-2
-returns-2 c = put-two _ _ _ (c .before .before .before .before .pre .1) _ (ltb-false _ _ (sym (c .before .before .is-inline .ensures) ∙ c .before .if1 .left)) (c .if2 .taken) (omega arith)
+returns-2 c = put-two _ _ _ (c .before .before .before .before .pre .1) _
+    (ltb-false _ _ (sym (c .before .before .is-inline .ensures) ∙ c .before .if1 .left)) (c .if2 .taken) (omega arith)
 
 width-requires : tie.Need-width-requires
 width-requires c κs = search needs
@@ -76,18 +79,24 @@ slice-write-out-4 : tie.Need-slice-write-out-4
 slice-write-out-4 c = omega (arith, length-long _ _ (ltb-false _ _ (sym (c .before .before .before .is-inline .ensures) ∙ c .before .before .if1 .left)))
 
 sub-put-number : tie.Need-sub-put-number
-sub-put-number c = simp length-set (omega (arith, length-long _ _ (ltb-false _ _ (sym (c .before .before .before .is-inline .ensures) ∙ c .before .before .if1 .left))))
+sub-put-number c = simp length-set
+    (omega (arith, length-long _ _ (ltb-false _ _ (sym (c .before .before .before .is-inline .ensures) ∙ c .before .before .if1 .left))))
 
 part-put-number-start : tie.Need-part-put-number-start
-part-put-number-start c = simp length-set (omega (arith, length-long _ _ (ltb-false _ _ (sym (c .before .before .before .is-inline .ensures) ∙ c .before .before .if1 .left))))
+part-put-number-start c = simp length-set
+    (omega (arith, length-long _ _ (ltb-false _ _ (sym (c .before .before .before .is-inline .ensures) ∙ c .before .before .if1 .left))))
 
 part-put-number-end : tie.Need-part-put-number-end
 part-put-number-end c = search needs
 
 put-number-requires : tie.Need-put-number-requires
 put-number-requires c κs =
-    let s = c .before .before .before .before .before .before in
-    (omega (arith, c .before .width .ensures, width-holds _ (s .fits .p .fits) .most), long-fits _ _ (s .args .out .now) (s .pre .1) _ (ltb-false _ _ (sym (c .before .before .before .before .is-inline .ensures) ∙ c .before .before .before .if1 .left)) (c .before .width .ensures))
+    let s = c .before .before .before .before .before .before in (
+      omega (arith, c .before .width .ensures, width-holds _ (s .fits .p .fits) .most),
+      long-fits _ _ (s .args .out .now)
+          (s .pre .1) _ (ltb-false _ _ (sym (c .before .before .before .before .is-inline .ensures)
+          ∙ c .before .before .before .if1 .left)) (c .before .width .ensures),
+    )
 
 add-result : tie.Need-add-result
 add-result c = omega (arith, c .before .before .put-number .ensures .0, c .before .before .before .before .width .ensures, width-holds _ (c .before .before .before .before .before .before .before .before .before .fits .p .fits) .most)
@@ -97,7 +106,9 @@ same-length-3 c =
     let s = c .before .before .before .before .before .before .before .before .before in
     let is-inline′ = c .before .before .before .before .before .before .before .is-inline in
     let if1′ = c .before .before .before .before .before .before .if1 in
-    put-long _ _ (s .args .out .now) (s .pre .1) _ (ltb-false _ _ (sym (is-inline′ .ensures) ∙ if1′ .left)) (c .before .before .before .before .width .ensures) _ _ (c .before .before .put-number .ensures .0) (c .before .before .put-number .ensures .1) .long
+    put-long _ _ (s .args .out .now) (s .pre .1) _ (ltb-false _ _ (sym (is-inline′ .ensures) ∙ if1′ .left))
+    (c .before .before .before .before .width .ensures) _ _ (c .before .before .put-number .ensures .0)
+    (c .before .before .put-number .ensures .1) .long
 
 returns-3 : tie.Need-returns-3
 returns-3 c =
@@ -106,7 +117,8 @@ returns-3 c =
     let if1′ = c .before .before .before .before .before .before .if1 in
     let width′ = c .before .before .before .before .width in
     let put-number′ = c .before .before .put-number in
-    let w = put-long _ _ (s .args .out .now) (s .pre .1) _ (ltb-false _ _ (sym (is-inline′ .ensures) ∙ if1′ .left)) (width′ .ensures) _ _ (put-number′ .ensures .0) (put-number′ .ensures .1) in
+    let w = put-long _ _ (s .args .out .now) (s .pre .1) _ (ltb-false _ _ (sym (is-inline′ .ensures) ∙ if1′ .left))
+    (width′ .ensures) _ _ (put-number′ .ensures .0) (put-number′ .ensures .1) in
     finish-all w (omega (arith, put-number′ .ensures .0, width′ .ensures, length-long _ _ (ltb-false _ _ (sym (is-inline′ .ensures) ∙ if1′ .left))))
 
 pub put-header-spec : {M : Type 1} → statement M

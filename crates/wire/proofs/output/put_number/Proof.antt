@@ -44,7 +44,11 @@ loop-less : tie.Need-loop-less Inv-loop μ-loop
 loop-less c = omega arith
 
 loop-again : tie.Need-loop-again Inv-loop μ-loop
-loop-again c = (omega arith, byte-as (c .before .loop .inv .1) (digits-step (c .before .before .args .k) (c .before .loop .i) (c .before .before .args .n) _ (c .loop-test .taken) (omega arith)) (omega (arith, c .before .loop .inv .1 .long)))
+loop-again c = (
+  omega arith,
+  byte-as (c .before .loop .inv .1) (digits-step (c .before .before .args .k) (c .before .loop .i)
+      (c .before .before .args .n) _ (c .loop-test .taken) (omega arith)) (omega (arith, c .before .loop .inv .1 .long)),
+)
 
 same-length : tie.Need-same-length Inv-loop μ-loop
 same-length c = c .before .loop .inv .1 .long

@@ -1,5 +1,7 @@
--- `writer::judging::judge` meets its contract: a walk of its MIR, by hand, with a loop. All that it knows of `new`, `begin` and `step` is that each meets its contract.
--- Entries, links and stack are local arrays: between turns they lie in memory, and in each turn they are borrowed to `step`, as plan is again. rows is read through a copy of what it owns.
+-- `writer::judging::judge` meets its contract: a walk of its MIR, by hand, with a loop. All that it knows of `new`,
+-- `begin` and `step` is that each meets its contract.
+-- Entries, links and stack are local arrays: between turns they lie in memory, and in each turn they are borrowed to
+-- `step`, as plan is again. rows is read through a copy of what it owns.
 -- The invariant, at a state, three arrays and a plan: `Judging` (`Loop.antt` has all that the walk asks of it). The variant: end - row.
 -- Assumes nothing.
 use mathlib.Core.Path.{_≡_, refl, sym, ap, subst}
@@ -155,7 +157,10 @@ record Stage (text : List ℕ) (rs : List Row) (n : ℕ) : Type 0 where
   judging : Judging text rs n es links st plan s
 
 abbrev stayed : Stays (judge.ended .signature .params) (judge.ended .kept)
-stayed = (stay-none-slice (0 ∷ []) tt (plain (λ _. T.the-row)) yes, (stay-none-slice (1 ∷ []) tt (plain (λ _. u8)) yes, (stay-ref (2 ∷ []) tt (arrayOf (plain (λ _. u16)) 1533), (stay-none (λ _. usize) yes, tt))))
+stayed = (
+  stay-none-slice (0 ∷ []) tt (plain (λ _. T.the-row)) yes,
+  (stay-none-slice (1 ∷ []) tt (plain (λ _. u8)) yes, (stay-ref (2 ∷ []) tt (arrayOf (plain (λ _. u16)) 1533), (stay-none (λ _. usize) yes, tt))),
+)
 
 module _ {M : Type 1} (𝓤 : URA M) (H : Heap 𝓤) (A : Atoms 𝓤) (mem : Memory → SProp 𝓤) (run : Routine → Fun 𝓤) where
   -- the contracts that the proof cites
@@ -168,9 +173,11 @@ module _ {M : Type 1} (𝓤 : URA M) (H : Heap 𝓤) (A : Atoms 𝓤) (mem : Mem
   abbrev Step : Contract 𝓤
   Step = tripleOf 𝓤 H A step′.signature (step′.spec 𝓤 H A mem run)
 
-module _ {M : Type 1} (𝓤 : URA M) (H : Heap 𝓤) (A : Atoms 𝓤) (W : Given 𝓤 H A) (mem : Memory → SProp 𝓤) (run : Routine → Fun 𝓤) (κ κ′ κ″ : Lft) (q q′ q″ : Share)
+module _ {M : Type 1} (𝓤 : URA M) (H : Heap 𝓤) (A : Atoms 𝓤) (W : Given 𝓤 H A) (mem : Memory → SProp 𝓤) (run : Routine
+    → Fun 𝓤) (κ κ′ κ″ : Lft) (q q′ q″ : Share)
     (b o : ℕ) (β : GName) (rs : List Row) (tx : RefT (List ℕ)) (pb po : ℕ) (π : GName) (plan₀ : List ℕ) (n : ℕ)
-    (gr : Room T.the-row (length rs)) (gt : Room u8 (length (tx .now))) (nn : n < 2 ^ 64) (small : (n ≤ length rs) × (n ≤ 1024) × (0 < n → length (tx .now) ≤ 16384) × (length plan₀ ≡ 1533)) where
+    (gr : Room T.the-row (length rs)) (gt : Room u8 (length (tx .now))) (nn : n < 2 ^ 64) (small : (n ≤ length rs)
+    × (n ≤ 1024) × (0 < n → length (tx .now) ≤ 16384) × (length plan₀ ≡ 1533)) where
   abbrev text : List ℕ
   text = tx .now
 
@@ -224,10 +231,13 @@ module _ {M : Type 1} (𝓤 : URA M) (H : Heap 𝓤) (A : Atoms 𝓤) (W : Given
       → ent 𝓤 (⋆ 𝓤 H A (‵ Rows ∷ ‵ (flft κ q) ∷ ‵ Text ∷ ‵ (flft κ′ q′) ∷ ‵ (Plans plan) ∷ ‵ (flft κ″ q″) ∷ [])) (Post (sv s))
   exits s is plan v =
       qed W (‵ Rows ∷ ‵ (flft κ q) ∷ ‵ Text ∷ ‵ (flft κ′ q′) ∷ ‵ (Plans plan) ∷ ‵ (flft κ″ q″) ∷ []) ∵
-      suffices ! _ (ends-at 𝓤 H A judge.ended stayed (judge.clauses 𝓤 H A mem run) W (((κ, (κ′, (κ″, tt))), (q, (q′, (q″, tt))), tt, x, at), tt) (sv s) s (tt, (tt, (plan, (tt, tt)))) (tt, (tt, (tt, (tt, tt))))) $ says ! v $
+      suffices ! _ (ends-at 𝓤 H A judge.ended stayed (judge.clauses 𝓤 H A mem run) W
+      (((κ, (κ′, (κ″, tt))), (q, (q′, (q″, tt))), tt, x, at), tt) (sv s) s (tt, (tt, (plan, (tt, tt))))
+      (tt, (tt, (tt, (tt, tt))))) $ says ! v $
       nothing ! $ move ! (6 ∷ 0 ∷ []) $ join ! $ move ! (4 ∷ 0 ∷ []) $ join ! $ move ! (2 ∷ 0 ∷ []) $ join ! $ frame ! $
       -- [what rows owns; what text owns; what plan owns]
-      nothing ! $ owned ! usize (Is usize) (uint-makes 𝓤 H A W w64) n _ (refl, nn) $ fjoin ! $ move ! (3 ∷ 0 ∷ []) $ fjoin ! $ move ! (2 ∷ 0 ∷ []) $ fjoin ! $ move ! (1 ∷ 0 ∷ []) $ fjoin ! $ frame ! $
+      nothing ! $ owned ! usize (Is usize) (uint-makes 𝓤 H A W w64) n _ (refl, nn) $ fjoin ! $ move ! (3 ∷ 0 ∷ []) $
+      fjoin ! $ move ! (2 ∷ 0 ∷ []) $ fjoin ! $ move ! (1 ∷ 0 ∷ []) $ fjoin ! $ frame ! $
       owned ! S.the-row (Is S.the-row) ((LL.makes S.the-type S′.the-plain) 𝓤 H A) s _ is $ done !
 
   -- ---- zeros
@@ -262,7 +272,8 @@ module _ {M : Type 1} (𝓤 : URA M) (H : Heap 𝓤) (A : Atoms 𝓤) (W : Given
     Last = Unit {0} × (List ℕ × (List ℕ × (List ℕ × (List ℕ × (Unit {0} × (Unit {0} × Unit {0}))))))
 
     abbrev Said : Last → State → Type 0
-    Said (_, (es, (links, (st, (plan, _))))) r = (xs : List Row) → After text (t .es) (t .links) (t .st) (t .plan) xs (t .s) → Next text es links st plan xs elem (t .s) r
+    Said (_, (es, (links, (st, (plan, _))))) r = (xs : List Row)
+        → After text (t .es) (t .links) (t .st) (t .plan) xs (t .s) → Next text es links st plan xs elem (t .s) r
 
     -- ---- the call of `step`: the arrays, at l₅, l₆ and l₇, are borrowed at the lifetimes ν₁, ν₂ and ν₃, and plan at ν₄
     module _ (l₅ l₆ l₇ : ℕ) (ν₁ ν₂ ν₃ ν₄ : ℕ) (δ₁ δ₂ δ₃ δ₄ : GName) where
@@ -282,7 +293,8 @@ module _ {M : Type 1} (𝓤 : URA M) (H : Heap 𝓤) (A : Atoms 𝓤) (W : Given
           ⊛ (‵ (Ref (named 3) (ν₃ ∷ []) Stack δ₃ l₇ 0 (t .st)) ⊛ ‵ (Ref (named 4) (ν₄ ∷ []) Plan δ₄ pb po (t .plan))))
 
       abbrev Tokens : Item 𝓤
-      Tokens = ‵ (flft κ′ q′) ⊛ (‵ (flft (ν₁ ∷ []) fullShare) ⊛ (‵ (flft (ν₂ ∷ []) fullShare) ⊛ (‵ (flft (ν₃ ∷ []) fullShare) ⊛ (‵ (flft (ν₄ ∷ []) fullShare) ⊛ ‵ ftrue))))
+      Tokens = ‵ (flft κ′ q′) ⊛ (‵ (flft (ν₁ ∷ []) fullShare)
+          ⊛ (‵ (flft (ν₂ ∷ []) fullShare) ⊛ (‵ (flft (ν₃ ∷ []) fullShare) ⊛ (‵ (flft (ν₄ ∷ []) fullShare) ⊛ ‵ ftrue))))
 
       abbrev to : Step 𝓤 H A mem run .Ghost
       to = (
@@ -296,30 +308,44 @@ module _ {M : Type 1} (𝓤 : URA M) (H : Heap 𝓤) (A : Atoms 𝓤) (W : Given
         tt,
       )
 
-      ask : t .s .row < t .s .end → Is T.the-row elem (row-val elem ∷ []) → ent 𝓤 (⋆ 𝓤 H A (Tokens ∷ ‵ Text ∷ Borrowed ∷ [])) (Step 𝓤 H A mem run .pre to)
+      ask : t .s .row < t .s .end → Is T.the-row elem (row-val elem ∷ [])
+          → ent 𝓤 (⋆ 𝓤 H A (Tokens ∷ ‵ Text ∷ Borrowed ∷ [])) (Step 𝓤 H A mem run .pre to)
       ask less g =
           qed W (Tokens ∷ ‵ Text ∷ Borrowed ∷ []) ∵ says ! (judging-ready text rs n (t .judging) less (small .1) (small .2)) $ frame ! $
           move ! (1 ∷ []) $ split ! $ move ! (1 ∷ []) $ split ! $ move ! (1 ∷ []) $ split ! $
           -- [stack, borrowed; plan; links; entries; what text owns]
-          nothing ! $ owned ! T.the-row (Is T.the-row) ((LL.makes T.the-type T′.the-plain) 𝓤 H A) elem _ g $ fjoin ! $ owned ! S.the-row (Is S.the-row) ((LL.makes S.the-type S′.the-plain) 𝓤 H A) (t .s) _ (t .is) $ fjoin ! $
-          move ! (2 ∷ 0 ∷ []) $ fjoin ! $ move ! (1 ∷ 0 ∷ []) $ fjoin ! $ move ! (1 ∷ 0 ∷ []) $ fjoin ! $ move ! (1 ∷ 0 ∷ []) $ fjoin ! $ move ! (1 ∷ 0 ∷ []) $ fjoin ! $ done !
+          nothing ! $ owned ! T.the-row (Is T.the-row) ((LL.makes T.the-type T′.the-plain) 𝓤 H A) elem _ g $ fjoin ! $
+          owned ! S.the-row (Is S.the-row) ((LL.makes S.the-type S′.the-plain) 𝓤 H A) (t .s) _ (t .is) $ fjoin ! $
+          move ! (2 ∷ 0 ∷ []) $ fjoin ! $ move ! (1 ∷ 0 ∷ []) $ fjoin ! $ move ! (1 ∷ 0 ∷ []) $ fjoin ! $
+          move ! (1 ∷ 0 ∷ []) $ fjoin ! $ move ! (1 ∷ 0 ∷ []) $ fjoin ! $ done !
 
       -- the call, as a step: then [the tokens; the last plan; stack; links; entries; …]
       steps : {Γ : List (Item 𝓤)} {E : Env 𝓤 H} {C : Calls 𝓤 H} {Λ : Loops 𝓤 H} {f : Name} {vs : List Operand} {d : Place} {p : Outcome 𝓤 H}
-          → FmC 𝓤 H (W .laws) C → Triple 𝓤 (C f) (Step 𝓤 H A mem run) → t .s .row < t .s .end → Is T.the-row elem (row-val elem ∷ []) → Opds Go W (raw (Step 𝓤 H A mem run .pre to) ∷ Γ) E vs (Step 𝓤 H A mem run .args to)
+          → FmC 𝓤 H (W .laws) C → Triple 𝓤 (C f) (Step 𝓤 H A mem run) → t .s .row < t .s .end
+          → Is T.the-row elem (row-val elem ∷ [])
+          → Opds Go W (raw (Step 𝓤 H A mem run .pre to) ∷ Γ) E vs (Step 𝓤 H A mem run .args to)
           → ((r : State) (u : Val) (ws : Last) → Is S.the-row r (u ∷ []) → Said ws r
-          → Sq W (Tokens ∷ ‵ (fres δ₄ (Plan .coded .code (ws .1 .1 .1 .1 .0))) ∷ ‵ (fres δ₃ (Stack .coded .code (ws .1 .1 .1 .0))) ∷ ‵ (fres δ₂ (Links .coded .code (ws .1 .1 .0))) ∷ ‵ (fres δ₁ (Entries .coded .code (ws .1 .0))) ∷ Γ) (settles E d u p))
+          → Sq W (Tokens ∷ ‵ (fres δ₄ (Plan .coded .code (ws .1 .1 .1 .1 .0)))
+          ∷ ‵ (fres δ₃ (Stack .coded .code (ws .1 .1 .1 .0))) ∷ ‵ (fres δ₂ (Links .coded .code (ws .1 .1 .0)))
+          ∷ ‵ (fres δ₁ (Entries .coded .code (ws .1 .0))) ∷ Γ) (settles E d u p))
           → Sq W (Tokens ∷ ‵ Text ∷ Borrowed ∷ Γ) (runs C Λ E (call f vs d) p)
       steps fm met less g os k =
           use3 W (raw (Step 𝓤 H A mem run .pre to)) (ask less g) $
           calls-at-last ! fm (Step 𝓤 H A mem run) met to os (λ u.
-          use1 W (later (some (λ (r : State). (Tokens ⊛ ‵ (S.the-row .own r (u ∷ []))) ⊛ raw (ensured 𝓤 H A step′.ended (step′.clauses 𝓤 H A mem run) lfts args tt r)))) (id⊢ 𝓤 _) $ await ! tt $ pick ! (λ r.
-          split ! $ move ! (1 ∷ []) $ use1 W (some (λ (ws : Last). ‵ (lasts step′.ended lfts args ws) ⊛ raw (fact 𝓤 (Said ws r)))) (id⊢ 𝓤 _) $ pick ! (λ ws.
-          split ! $ move ! (1 ∷ []) $ heard ! (Said ws r) (λ e. fsplit ! $ drop ! $ fsplit ! $ move ! (1 ∷ []) $ fsplit ! $ move ! (1 ∷ []) $ fsplit ! $ move ! (1 ∷ []) $ fsplit ! $ move ! (1 ∷ []) $ drop ! $
+          use1 W (later (some (λ (r : State). (Tokens ⊛ ‵ (S.the-row .own r (u ∷ [])))
+          ⊛ raw (ensured 𝓤 H A step′.ended (step′.clauses 𝓤 H A mem run) lfts args tt r)))) (id⊢ 𝓤 _) $ await ! tt $
+          pick ! (λ r.
+          split ! $ move ! (1 ∷ []) $
+          use1 W (some (λ (ws : Last). ‵ (lasts step′.ended lfts args ws) ⊛ raw (fact 𝓤 (Said ws r)))) (id⊢ 𝓤 _) $
+          pick ! (λ ws.
+          split ! $ move ! (1 ∷ []) $ heard ! (Said ws r) (λ e. fsplit ! $ drop ! $ fsplit ! $ move ! (1 ∷ []) $
+          fsplit ! $ move ! (1 ∷ []) $ fsplit ! $ move ! (1 ∷ []) $ fsplit ! $ move ! (1 ∷ []) $ drop ! $
           -- [the last plan; stack; links; entries; the tokens and the result; …]
-          move ! (4 ∷ []) $ split ! $ move ! (1 ∷ []) $ facts ! S.the-row (Is S.the-row) (shows 𝓤 H A S.the-row) r (u ∷ []) (λ is. k r u ws is e)))))
+          move ! (4 ∷ []) $ split ! $ move ! (1 ∷ []) $
+          facts ! S.the-row (Is S.the-row) (shows 𝓤 H A S.the-row) r (u ∷ []) (λ is. k r u ws is e)))))
 
-  module _ (𝓣 : Tables 𝓤 H) (known : Triple 𝓤 (𝓣 .C #step) (Step 𝓤 H A mem run)) (l₀ l₁ l₂ l₃ l₄ l₅ l₆ l₇ l₈ l′ l₉ l₁₀ l₁₁ l₁₂ l₁₃ l₁₄ l₁₅ l₁₆ : ℕ) where
+  module _ (𝓣 : Tables 𝓤 H) (known : Triple 𝓤 (𝓣 .C #step) (Step 𝓤 H A mem run))
+      (l₀ l₁ l₂ l₃ l₄ l₅ l₆ l₇ l₈ l′ l₉ l₁₀ l₁₁ l₁₂ l₁₃ l₁₄ l₁₅ l₁₆ : ℕ) where
     abbrev C : Calls 𝓤 H
     C = 𝓣 .C
 
@@ -327,78 +353,126 @@ module _ {M : Type 1} (𝓤 : URA M) (H : Heap 𝓤) (A : Atoms 𝓤) (W : Given
     Λ = 𝓣 .Λ
 
     abbrev En : Env 𝓤 H
-    En = (S′.mir, l₀) ∷ (rowsTy, l₁) ∷ (textTy, l₂) ∷ (tyRef (named 2) mut planTy, l₃) ∷ (word, l₄) ∷ (entriesTy, l₅) ∷ (linksTy, l₆) ∷ (stackTy, l₇) ∷ (S′.mir, l₈) ∷ (entriesTy, l′) ∷ (tyBool, l₉)
-        ∷ (refTy entriesTy, l₁₀) ∷ (refTy linksTy, l₁₁) ∷ (refTy stackTy, l₁₂) ∷ (refTy planTy, l₁₃) ∷ (word, l₁₄) ∷ (tyPtr, l₁₅) ∷ (T′.mir, l₁₆) ∷ []
+    En = (S′.mir, l₀) ∷ (rowsTy, l₁) ∷ (textTy, l₂) ∷ (tyRef (named 2) mut planTy, l₃) ∷ (word, l₄) ∷ (entriesTy, l₅)
+        ∷ (linksTy, l₆) ∷ (stackTy, l₇) ∷ (S′.mir, l₈) ∷ (entriesTy, l′) ∷ (tyBool, l₉)
+        ∷ (refTy entriesTy, l₁₀) ∷ (refTy linksTy, l₁₁) ∷ (refTy stackTy, l₁₂) ∷ (refTy planTy, l₁₃) ∷ (word, l₁₄)
+        ∷ (tyPtr, l₁₅) ∷ (T′.mir, l₁₆) ∷ []
 
-    -- [what rows owns; its token; what text owns; its token; what plan owns; its token; entries; links; stack; _16; …; _8; …; that _7, _6 and _5 die; _4; …; _0; …]
+    -- [what rows owns; its token; what text owns; its token; what plan owns; its token; entries; links; stack; _16; …;
+    -- _8; …; that _7, _6 and _5 die; _4; …; _0; …]
     abbrev Has : State → List ℕ → List ℕ → List ℕ → List ℕ → List (Item 𝓤)
     Has s es links st plan = ‵ Rows ∷ ‵ (flft κ q) ∷ ‵ Text ∷ ‵ (flft κ′ q′) ∷ ‵ (Plans plan) ∷ ‵ (flft κ″ q″)
         ∷ ‵ (in-memory Entries .lies es l₅ 0) ∷ ‵ (in-memory Links .lies links l₆ 0) ∷ ‵ (in-memory Stack .lies st l₇ 0)
-        ∷ ‵ (froom T′.mir l₁₆ 0) ∷ ‵ (fdies T′.mir l₁₆) ∷ ‵ (froom tyPtr l₁₅ 0) ∷ ‵ (fdies tyPtr l₁₅) ∷ ‵ (froom word l₁₄ 0) ∷ ‵ (fdies word l₁₄)
+        ∷ ‵ (froom T′.mir l₁₆ 0) ∷ ‵ (fdies T′.mir l₁₆) ∷ ‵ (froom tyPtr l₁₅ 0) ∷ ‵ (fdies tyPtr l₁₅)
+        ∷ ‵ (froom word l₁₄ 0) ∷ ‵ (fdies word l₁₄)
         ∷ ‵ (froom (refTy planTy) l₁₃ 0) ∷ ‵ (fdies (refTy planTy) l₁₃) ∷ ‵ (froom (refTy stackTy) l₁₂ 0) ∷ ‵ (fdies (refTy stackTy) l₁₂)
-        ∷ ‵ (froom (refTy linksTy) l₁₁ 0) ∷ ‵ (fdies (refTy linksTy) l₁₁) ∷ ‵ (froom (refTy entriesTy) l₁₀ 0) ∷ ‵ (fdies (refTy entriesTy) l₁₀)
-        ∷ ‵ (froom tyBool l₉ 0) ∷ ‵ (fdies tyBool l₉) ∷ ‵ (froom entriesTy l′ 0) ∷ ‵ (fdies entriesTy l′) ∷ ‵ (fat fullShare S′.mir l₈ 0 (sv s)) ∷ ‵ (fdies S′.mir l₈) ∷ ‵ (fdies stackTy l₇) ∷ ‵ (fdies linksTy l₆) ∷ ‵ (fdies entriesTy l₅)
-        ∷ ‵ (fat fullShare word l₄ 0 (vint w64 n)) ∷ ‵ (fdies word l₄) ∷ ‵ (fat fullShare (tyRef (named 2) mut planTy) l₃ 0 pv) ∷ ‵ (fdies (tyRef (named 2) mut planTy) l₃)
-        ∷ ‵ (fat fullShare textTy l₂ 0 tv) ∷ ‵ (fdies textTy l₂) ∷ ‵ (fat fullShare rowsTy l₁ 0 rv) ∷ ‵ (fdies rowsTy l₁) ∷ ‵ (froom S′.mir l₀ 0) ∷ ‵ (fdies S′.mir l₀) ∷ []
+        ∷ ‵ (froom (refTy linksTy) l₁₁ 0) ∷ ‵ (fdies (refTy linksTy) l₁₁) ∷ ‵ (froom (refTy entriesTy) l₁₀ 0)
+        ∷ ‵ (fdies (refTy entriesTy) l₁₀)
+        ∷ ‵ (froom tyBool l₉ 0) ∷ ‵ (fdies tyBool l₉) ∷ ‵ (froom entriesTy l′ 0) ∷ ‵ (fdies entriesTy l′)
+        ∷ ‵ (fat fullShare S′.mir l₈ 0 (sv s)) ∷ ‵ (fdies S′.mir l₈) ∷ ‵ (fdies stackTy l₇) ∷ ‵ (fdies linksTy l₆)
+        ∷ ‵ (fdies entriesTy l₅)
+        ∷ ‵ (fat fullShare word l₄ 0 (vint w64 n)) ∷ ‵ (fdies word l₄)
+        ∷ ‵ (fat fullShare (tyRef (named 2) mut planTy) l₃ 0 pv) ∷ ‵ (fdies (tyRef (named 2) mut planTy) l₃)
+        ∷ ‵ (fat fullShare textTy l₂ 0 tv) ∷ ‵ (fdies textTy l₂) ∷ ‵ (fat fullShare rowsTy l₁ 0 rv)
+        ∷ ‵ (fdies rowsTy l₁) ∷ ‵ (froom S′.mir l₀ 0) ∷ ‵ (fdies S′.mir l₀) ∷ []
 
     abbrev At : St → List (Item 𝓤)
     At t = Has (t .s) (t .es) (t .links) (t .st) (t .plan)
 
     -- a turn's postcondition: it ends nearer to the end, or the loop is left and the rest of the body runs
     abbrev Turned : St → Out → SProp 𝓤
-    Turned t = afterTurn 𝓤 H (Below 𝓤 H A Nearer At t) (afterBlock 𝓤 H (afterSeq 𝓤 H (Wp 𝓤 H C Λ En mir.t-7 (atReturn 𝓤 H En Post)) (atReturn 𝓤 H En Post)))
+    Turned t = afterTurn 𝓤 H (Below 𝓤 H A Nearer At t)
+        (afterBlock 𝓤 H (afterSeq 𝓤 H (Wp 𝓤 H C Λ En mir.t-7 (atReturn 𝓤 H En Post)) (atReturn 𝓤 H En Post)))
 
     turns : (t : St) → Sq W (At t) (runs C Λ En mir.turn-1 (anyQ (Turned t)))
     unfolding afterTurn
     turns t =
-        assigns ! (bin ! (load ! (from ! (fld ! refl (stop !))) (look-in ! 27 (sub ! 0 refl (whole !)))) (load ! (from ! (fld ! refl (stop !))) (look-in ! 27 (sub ! 1 refl (whole !)))) tt) (from ! (stop !)) (init ! 23 refl (tt, tt)) $
+        assigns ! (bin ! (load ! (from ! (fld ! refl (stop !))) (look-in ! 27 (sub ! 0 refl (whole !))))
+        (load ! (from ! (fld ! refl (stop !))) (look-in ! 27 (sub ! 1 refl (whole !)))) tt) (from ! (stop !))
+        (init ! 23 refl (tt, tt)) $
         first ! $ branches ! (load ! (from ! (stop !)) (look ! 23 refl))
         -- a row is left: the references for the call are made, and the place of the row
         (λ less. skips ! $ exec ! C Λ En more (anyQ (Turned t)) $
-        assigns ! (addr ! (from ! (stop !))) (from ! (stop !)) (init ! 21 refl (tt, tt)) $ assigns ! (addr ! (from ! (stop !))) (from ! (stop !)) (init ! 19 refl (tt, tt)) $ assigns ! (addr ! (from ! (stop !))) (from ! (stop !)) (init ! 17 refl (tt, tt)) $
+        assigns ! (addr ! (from ! (stop !))) (from ! (stop !)) (init ! 21 refl (tt, tt)) $
+        assigns ! (addr ! (from ! (stop !))) (from ! (stop !)) (init ! 19 refl (tt, tt)) $
+        assigns ! (addr ! (from ! (stop !))) (from ! (stop !)) (init ! 17 refl (tt, tt)) $
         assigns ! (addr ! (from ! (hop ! (look ! 34 refl) (stop !)))) (from ! (stop !)) (init ! 15 refl (tt, tt)) $
-        assigns ! (bin ! (load ! (from ! (fld ! refl (stop !))) (look-in ! 27 (sub ! 0 refl (whole !)))) (lit ! tt) (record { fits = far less })) (from ! (stop !)) (init ! 13 refl (tt, record { fits = far less })) $
-        assigns ! (bin ! (load ! (from ! (fld ! refl (stop !))) (look-in ! 38 (sub ! 0 refl (whole !)))) (load ! (from ! (stop !)) (look ! 13 refl)) tt) (from ! (stop !)) (init ! 11 refl (tt, tt)) $
+        assigns ! (bin ! (load ! (from ! (fld ! refl (stop !))) (look-in ! 27 (sub ! 0 refl (whole !)))) (lit ! tt)
+        (record { fits = far less })) (from ! (stop !)) (init ! 13 refl (tt, record { fits = far less })) $
+        assigns ! (bin ! (load ! (from ! (fld ! refl (stop !))) (look-in ! 38 (sub ! 0 refl (whole !))))
+        (load ! (from ! (stop !)) (look ! 13 refl)) tt) (from ! (stop !)) (init ! 11 refl (tt, tt)) $
         rewrite ! 11 (λ (z : ℕ). ‵ (fat fullShare tyPtr l₁₅ 0 (vptr b z))) (sym (place-is 24 o (t .s .row))) refl $
         -- a copy of what rows owns is looked into, and the row is read
-        use1 W (‵ Rows ⊛ ‵ Rows) (shr-slice-copy 𝓤 H A W (named 0) κ T.the-row .twice rx (rv ∷ [])) $ split ! $ fsplit ! $ drop ! $ fsplit ! $ drop ! $ move ! (0 ∷ 2 ∷ []) $
-        looks-slice ! tt T.the-row (Is T.the-row) (shows 𝓤 H A T.the-row) (LL.vals T.the-type T′.the-laws) (LL.tells T.the-type T′.the-laws) (LL.copy T.the-type T′.the-copy 𝓤 H A W) rs b o (λ w.
-        elem-out ! T.the-row (Is T.the-row) (shows 𝓤 H A T.the-row) (LL.vals T.the-type T′.the-laws) (LL.tells T.the-type T′.the-laws) w rs (t .s .row) blank b o (within less) (λ g.
-        -- [the row; what it owns; the others; what shuts; the fractured borrow; what rows owns; what text owns; its token; what plan owns; its token; entries; links; stack; _16; …]
-        assigns ! (of-opd ! (load ! (from ! (hop ! (look ! 15 refl) (stop !))) (look-raw ! 0 refl))) (from ! (stop !)) (init ! 13 refl (row-typed g)) $
-        elem-back ! T.the-row w rs (t .s .row) blank (row-val (elem t) ∷ []) b o (within less) $ shuts-slice ! tt T.the-row w rs b o $ move ! (1 ∷ []) $ drop ! $
-        -- [rows' token; what rows owns; what text owns; its token; what plan owns; its token; entries; links; stack; _16; …]: the arrays and plan are borrowed for the call
-        move ! (6 ∷ []) $ borrows ! tt (named 1) Entries (t .es) l₅ 0 (λ ν₁ δ₁. move ! (9 ∷ []) $ borrows ! tt (named 2) Links (t .links) l₆ 0 (λ ν₂ δ₂. move ! (12 ∷ []) $ borrows ! tt (named 3) Stack (t .st) l₇ 0 (λ ν₃ δ₃.
+        use1 W (‵ Rows ⊛ ‵ Rows) (shr-slice-copy 𝓤 H A W (named 0) κ T.the-row .twice rx (rv ∷ [])) $ split ! $
+        fsplit ! $ drop ! $ fsplit ! $ drop ! $ move ! (0 ∷ 2 ∷ []) $
+        looks-slice ! tt T.the-row (Is T.the-row) (shows 𝓤 H A T.the-row) (LL.vals T.the-type T′.the-laws)
+        (LL.tells T.the-type T′.the-laws) (LL.copy T.the-type T′.the-copy 𝓤 H A W) rs b o (λ w.
+        elem-out ! T.the-row (Is T.the-row) (shows 𝓤 H A T.the-row) (LL.vals T.the-type T′.the-laws)
+        (LL.tells T.the-type T′.the-laws) w rs (t .s .row) blank b o (within less) (λ g.
+        -- [the row; what it owns; the others; what shuts; the fractured borrow; what rows owns; what text owns; its
+        -- token; what plan owns; its token; entries; links; stack; _16; …]
+        assigns ! (of-opd ! (load ! (from ! (hop ! (look ! 15 refl) (stop !))) (look-raw ! 0 refl))) (from ! (stop !))
+        (init ! 13 refl (row-typed g)) $
+        elem-back ! T.the-row w rs (t .s .row) blank (row-val (elem t) ∷ []) b o (within less) $
+        shuts-slice ! tt T.the-row w rs b o $ move ! (1 ∷ []) $ drop ! $
+        -- [rows' token; what rows owns; what text owns; its token; what plan owns; its token; entries; links; stack;
+        -- _16; …]: the arrays and plan are borrowed for the call
+        move ! (6 ∷ []) $ borrows ! tt (named 1) Entries (t .es) l₅ 0 (λ ν₁ δ₁. move ! (9 ∷ []) $
+        borrows ! tt (named 2) Links (t .links) l₆ 0 (λ ν₂ δ₂. move ! (12 ∷ []) $
+        borrows ! tt (named 3) Stack (t .st) l₇ 0 (λ ν₃ δ₃.
         move ! (13 ∷ 14 ∷ []) $ passes (named 2) κ″ q″ Plan π pb po ! tt (named 4) (t .plan) (λ ν₄ δ₄.
-        -- [plan, borrowed; what is kept of it; ν₄'s token; stack, borrowed; what is kept; ν₃'s token; links, borrowed; what is kept; ν₂'s token; entries, borrowed; what is kept; ν₁'s token; rows' token; what rows owns; what text owns; its token; _16; …]: a copy of text
+        -- [plan, borrowed; what is kept of it; ν₄'s token; stack, borrowed; what is kept; ν₃'s token; links, borrowed;
+        -- what is kept; ν₂'s token; entries, borrowed; what is kept; ν₁'s token; rows' token; what rows owns; what
+        -- text owns; its token; _16; …]: a copy of text
         move ! (14 ∷ []) $ use1 W (‵ Text ⊛ ‵ Text) (shr-slice-copy 𝓤 H A W (named 1) κ′ u8 .twice tx (tv ∷ [])) $ split ! $
-        nothing ! $ move ! (5 ∷ 0 ∷ []) $ join ! $ move ! (7 ∷ 0 ∷ []) $ join ! $ move ! (9 ∷ 0 ∷ []) $ join ! $ move ! (11 ∷ 0 ∷ []) $ join ! $ move ! (13 ∷ 0 ∷ []) $ join ! $
-        -- [the tokens; what text owns; the same; plan, borrowed; what is kept; stack, borrowed; what is kept; links, borrowed; what is kept; entries, borrowed; what is kept; rows' token; what rows owns; _16; …]
+        nothing ! $ move ! (5 ∷ 0 ∷ []) $ join ! $ move ! (7 ∷ 0 ∷ []) $ join ! $ move ! (9 ∷ 0 ∷ []) $ join ! $
+        move ! (11 ∷ 0 ∷ []) $ join ! $ move ! (13 ∷ 0 ∷ []) $ join ! $
+        -- [the tokens; what text owns; the same; plan, borrowed; what is kept; stack, borrowed; what is kept; links,
+        -- borrowed; what is kept; entries, borrowed; what is kept; rows' token; what rows owns; _16; …]
         move ! (5 ∷ 3 ∷ []) $ join ! $ move ! (6 ∷ 0 ∷ []) $ join ! $ move ! (7 ∷ 0 ∷ []) $ join ! $ move ! (1 ∷ 2 ∷ 0 ∷ []) $
-        -- [the tokens; what text owns; what is borrowed; what text owns; what is kept of plan, stack, links and entries; rows' token; what rows owns; _16; …]: `step` is called
+        -- [the tokens; what text owns; what is borrowed; what text owns; what is kept of plan, stack, links and
+        -- entries; rows' token; what rows owns; _16; …]: `step` is called
         steps t l₅ l₆ l₇ ν₁ ν₂ ν₃ ν₄ δ₁ δ₂ δ₃ δ₄ (fmOf 𝓤 H (W .laws) 𝓣) known (below less) g
-        (and-then ! (load ! (from ! (stop !)) (look ! 35 refl)) (and-then ! (load ! (from ! (stop !)) (look ! 20 refl)) (and-then ! (load ! (from ! (stop !)) (look ! 18 refl)) (and-then ! (load ! (from ! (stop !)) (look ! 16 refl))
-        (and-then ! (load ! (from ! (stop !)) (look ! 14 refl)) (and-then ! (load ! (from ! (stop !)) (look ! 26 refl)) (and-then ! (load ! (from ! (stop !)) (look ! 8 refl)) (no-more !)))))))) (λ r u ws is e.
-        -- [the tokens; the last plan; stack; links; entries; what text owns; what is kept of plan, stack, links and entries; rows' token; what rows owns; _16; …]
+        (and-then ! (load ! (from ! (stop !)) (look ! 35 refl))
+        (and-then ! (load ! (from ! (stop !)) (look ! 20 refl))
+        (and-then ! (load ! (from ! (stop !)) (look ! 18 refl)) (and-then ! (load ! (from ! (stop !)) (look ! 16 refl))
+        (and-then ! (load ! (from ! (stop !)) (look ! 14 refl))
+        (and-then ! (load ! (from ! (stop !)) (look ! 26 refl))
+        (and-then ! (load ! (from ! (stop !)) (look ! 8 refl)) (no-more !)))))))) (λ r u ws is e.
+        -- [the tokens; the last plan; stack; links; entries; what text owns; what is kept of plan, stack, links and
+        -- entries; rows' token; what rows owns; _16; …]
         -- what was borrowed comes back
-        split ! $ move ! (1 ∷ []) $ split ! $ move ! (0 ∷ 11 ∷ 6 ∷ []) $ gives-back ! tt Entries (ws .1 .0) l₅ 0 $ move ! (1 ∷ []) $ split ! $ move ! (0 ∷ 10 ∷ 6 ∷ []) $ gives-back ! tt Links (ws .1 .1 .0) l₆ 0 $
-        move ! (1 ∷ []) $ split ! $ move ! (0 ∷ 9 ∷ 6 ∷ []) $ gives-back ! tt Stack (ws .1 .1 .1 .0) l₇ 0 $ move ! (1 ∷ []) $ split ! $ move ! (0 ∷ 8 ∷ 6 ∷ []) $ takes-back (named 2) κ″ q″ Plan π pb po ! tt (t .plan) (ws .1 .1 .1 .1 .0) $
+        split ! $ move ! (1 ∷ []) $ split ! $ move ! (0 ∷ 11 ∷ 6 ∷ []) $ gives-back ! tt Entries (ws .1 .0) l₅ 0 $
+        move ! (1 ∷ []) $ split ! $ move ! (0 ∷ 10 ∷ 6 ∷ []) $ gives-back ! tt Links (ws .1 .1 .0) l₆ 0 $
+        move ! (1 ∷ []) $ split ! $ move ! (0 ∷ 9 ∷ 6 ∷ []) $ gives-back ! tt Stack (ws .1 .1 .1 .0) l₇ 0 $
+        move ! (1 ∷ []) $ split ! $ move ! (0 ∷ 8 ∷ 6 ∷ []) $
+        takes-back (named 2) κ″ q″ Plan π pb po ! tt (t .plan) (ws .1 .1 .1 .1 .0) $
         -- [what plan owns; its token; true; stack; links; entries; text's token; what text owns; rows' token; what rows owns; _16; …]
-        land-last ! (from ! (stop !)) (store ! 28 refl (typed r u is)) $ rewrite ! 28 (λ (v : Val). ‵ (fat fullShare S′.mir l₈ 0 v)) (val-is r u is) refl $
-        forget ! 10 refl $ forget ! 12 refl $ forget ! 14 refl $ forget ! 16 refl $ forget ! 18 refl $ forget ! 20 refl $ forget ! 22 refl $ forget ! 24 refl $
-        keep ! (9 ∷ 8 ∷ 7 ∷ 6 ∷ 0 ∷ 1 ∷ 5 ∷ 4 ∷ 3 ∷ 10 ∷ 11 ∷ 12 ∷ 13 ∷ 14 ∷ 15 ∷ 16 ∷ 17 ∷ 18 ∷ 19 ∷ 20 ∷ 21 ∷ 22 ∷ 23 ∷ 24 ∷ 25 ∷ 26 ∷ 27 ∷ 28 ∷ 29 ∷ 30 ∷ 31 ∷ 32 ∷ 33 ∷ 34 ∷ 35 ∷ 36 ∷ 37 ∷ 38 ∷ 39 ∷ 40 ∷ 41 ∷ 42 ∷ []) $
-        again ! Nearer At t (record { s = r; es = ws .1 .0; links = ws .1 .1 .0; st = ws .1 .1 .1 .0; plan = ws .1 .1 .1 .1 .0; is = held r u is; judging = on less ws r e .0 }) (on less ws r e .1)))))))))
+        land-last ! (from ! (stop !)) (store ! 28 refl (typed r u is)) $
+        rewrite ! 28 (λ (v : Val). ‵ (fat fullShare S′.mir l₈ 0 v)) (val-is r u is) refl $
+        forget ! 10 refl $ forget ! 12 refl $ forget ! 14 refl $ forget ! 16 refl $ forget ! 18 refl $
+        forget ! 20 refl $ forget ! 22 refl $ forget ! 24 refl $
+        keep ! (9 ∷ 8 ∷ 7 ∷ 6 ∷ 0 ∷ 1 ∷ 5 ∷ 4 ∷ 3 ∷ 10 ∷ 11 ∷ 12 ∷ 13 ∷ 14 ∷ 15 ∷ 16 ∷ 17 ∷ 18 ∷ 19 ∷ 20 ∷ 21 ∷ 22 ∷ 23
+        ∷ 24 ∷ 25 ∷ 26 ∷ 27 ∷ 28 ∷ 29 ∷ 30 ∷ 31 ∷ 32 ∷ 33 ∷ 34 ∷ 35 ∷ 36 ∷ 37 ∷ 38 ∷ 39 ∷ 40 ∷ 41 ∷ 42 ∷ []) $
+        again ! Nearer At t (record
+        { s = r; es = ws .1 .0; links = ws .1 .1 .0; st = ws .1 .1 .1 .0; plan = ws .1 .1 .1 .1 .0; is = held r u is; judging = on less ws r e .0 }) (on less ws r e .1)))))))))
         -- no row is left
         (λ over. jumps ! $ exec ! C Λ En mir.t-7 (atRet En Post) $
         assigns ! (of-opd ! (load ! (from ! (stop !)) (look ! 27 refl))) (from ! (stop !)) (init ! 40 refl (typed (t .s) _ (t .is))) $
-        move ! (6 ∷ []) $ use1 W (‵ (froom entriesTy l₅ 0)) (array-out 𝓤 H A W u64 256 (t .es) l₅ 0) $ move ! (7 ∷ []) $ use1 W (‵ (froom linksTy l₆ 0)) (array-out 𝓤 H A W u16 768 (t .links) l₆ 0) $
+        move ! (6 ∷ []) $ use1 W (‵ (froom entriesTy l₅ 0)) (array-out 𝓤 H A W u64 256 (t .es) l₅ 0) $ move ! (7 ∷ []) $
+        use1 W (‵ (froom linksTy l₆ 0)) (array-out 𝓤 H A W u16 768 (t .links) l₆ 0) $
         move ! (8 ∷ []) $ use1 W (‵ (froom stackTy l₇ 0)) (array-out 𝓤 H A W u64 32 (t .st) l₇ 0) $
-        -- [the cells of _7, _6 and _5; what rows owns; its token; what text owns; its token; what plan owns; its token; _16; …; _8; …; that _7, _6 and _5 die; _4; …; _0; …]
-        returns ! (look ! 40 refl) $ forget ! 23 refl $ forget ! 27 refl $ forget ! 32 refl $ forget ! 34 refl $ forget ! 36 refl $ forget ! 38 refl $ forget ! 40 refl $
-        move ! (40 ∷ 41 ∷ []) $ free1 ! $ move ! (38 ∷ 39 ∷ []) $ free1 ! $ move ! (36 ∷ 37 ∷ []) $ free1 ! $ move ! (34 ∷ 35 ∷ []) $ free1 ! $ move ! (32 ∷ 33 ∷ []) $ free1 ! $
+        -- [the cells of _7, _6 and _5; what rows owns; its token; what text owns; its token; what plan owns; its
+        -- token; _16; …; _8; …; that _7, _6 and _5 die; _4; …; _0; …]
+        returns ! (look ! 40 refl) $ forget ! 23 refl $ forget ! 27 refl $ forget ! 32 refl $ forget ! 34 refl $
+        forget ! 36 refl $ forget ! 38 refl $ forget ! 40 refl $
+        move ! (40 ∷ 41 ∷ []) $ free1 ! $ move ! (38 ∷ 39 ∷ []) $ free1 ! $ move ! (36 ∷ 37 ∷ []) $ free1 ! $
+        move ! (34 ∷ 35 ∷ []) $ free1 ! $ move ! (32 ∷ 33 ∷ []) $ free1 ! $
         move ! (2 ∷ 31 ∷ []) $ free1 ! $ move ! (1 ∷ 29 ∷ []) $ free1 ! $ move ! (0 ∷ 27 ∷ []) $ free1 ! $
-        move ! (24 ∷ 25 ∷ []) $ free1 ! $ move ! (22 ∷ 23 ∷ []) $ free1 ! $ move ! (20 ∷ 21 ∷ []) $ free1 ! $ move ! (18 ∷ 19 ∷ []) $ free1 ! $ move ! (16 ∷ 17 ∷ []) $ free1 ! $ move ! (14 ∷ 15 ∷ []) $ free1 ! $
-        move ! (12 ∷ 13 ∷ []) $ free1 ! $ move ! (10 ∷ 11 ∷ []) $ free1 ! $ move ! (8 ∷ 9 ∷ []) $ free1 ! $ move ! (6 ∷ 7 ∷ []) $ free1 ! $ free0 ! $
+        move ! (24 ∷ 25 ∷ []) $ free1 ! $ move ! (22 ∷ 23 ∷ []) $ free1 ! $ move ! (20 ∷ 21 ∷ []) $ free1 ! $
+        move ! (18 ∷ 19 ∷ []) $ free1 ! $ move ! (16 ∷ 17 ∷ []) $ free1 ! $ move ! (14 ∷ 15 ∷ []) $ free1 ! $
+        move ! (12 ∷ 13 ∷ []) $ free1 ! $ move ! (10 ∷ 11 ∷ []) $ free1 ! $ move ! (8 ∷ 9 ∷ []) $ free1 ! $
+        move ! (6 ∷ 7 ∷ []) $ free1 ! $ free0 ! $
         by ! (exits (t .s) (t .is) (t .plan) (judging-off text rs n (t .judging) (nltb→le (t .s .row) (t .s .end) over))))
       where
         below : Holds (ltb (t .s .row) (t .s .end)) → t .s .row < t .s .end
@@ -412,49 +486,87 @@ module _ {M : Type 1} (𝓤 : URA M) (H : Heap 𝓤) (A : Atoms 𝓤) (W : Given
 
         on : Holds (ltb (t .s .row) (t .s .end)) → (ws : Last t) (r : State) → Said t ws r
             → Judging text rs n (ws .1 .0) (ws .1 .1 .0) (ws .1 .1 .1 .0) (ws .1 .1 .1 .1 .0) r × (r .end - r .row < t .s .end - t .s .row)
-        on less ws r e = judging-on text rs n (t .judging) (below less) (small .0) (ws .1 .0) (ws .1 .1 .0) (ws .1 .1 .1 .0) (ws .1 .1 .1 .1 .0) r e
+        on less ws r e = judging-on text rs n (t .judging) (below less) (small .0) (ws .1 .0) (ws .1 .1 .0)
+            (ws .1 .1 .1 .0) (ws .1 .1 .1 .1 .0) r e
 
         row-typed : Is T.the-row (elem t) (row-val (elem t) ∷ []) → Holds (hasTy T′.mir (row-val (elem t))) × WT (row-val (elem t))
         row-typed is = LL.lawful T.the-type T′.the-laws 𝓤 H A W .typed (elem t) _ is .0
 
-    -- the loop and what follows it, over the types that are written out above. In `walk` the same code stands over the types that `code.function` computes: there the two are compared once, and the kernel never unfolds `Wp` to do it
-    looped : (es : List ℕ) (r : State) → es ≡ zs 256 → Is S.the-row r (sv r ∷ []) → r ≡ begun n → Sq W (Has r es (zs 768) (zs 32) plan₀) (runs C Λ En mir.t-6 (atRet En Post))
-    looped es r z is e = first ! $ blocks ! $ loops ! 𝓣 Nearer Nearer-wf At turns (record { s = r; es = es; links = zs 768; st = zs 32; plan = plan₀; is = is; judging = at-first es r z e })
+    -- the loop and what follows it, over the types that are written out above. In `walk` the same code stands over the
+    -- types that `code.function` computes: there the two are compared once, and the kernel never unfolds `Wp` to do it
+    looped : (es : List ℕ) (r : State) → es ≡ zs 256 → Is S.the-row r (sv r ∷ []) → r ≡ begun n
+        → Sq W (Has r es (zs 768) (zs 32) plan₀) (runs C Λ En mir.t-6 (atRet En Post))
+    looped es r z is e = first ! $ blocks ! $
+        loops ! 𝓣 Nearer Nearer-wf At turns
+        (record { s = r; es = es; links = zs 768; st = zs 32; plan = plan₀; is = is; judging = at-first es r z e })
 
   -- the MIR, up to the loop
-  walk : (𝓣 : Tables 𝓤 H) → Triple 𝓤 (𝓣 .C #new) (New 𝓤 H A mem run) → Triple 𝓤 (𝓣 .C #begin) (Begin 𝓤 H A mem run) → Triple 𝓤 (𝓣 .C #step) (Step 𝓤 H A mem run)
-      → ent 𝓤 (onEntry 𝓤 H A judge.signature (κ, (κ′, (κ″, tt))) (q, (q′, (q″, tt))) x at) (WpFn 𝓤 H (𝓣 .C) (𝓣 .Λ) code.function (rv ∷ tv ∷ pv ∷ vint w64 n ∷ []) Post)
+  walk : (𝓣 : Tables 𝓤 H) → Triple 𝓤 (𝓣 .C #new) (New 𝓤 H A mem run) → Triple 𝓤 (𝓣 .C #begin) (Begin 𝓤 H A mem run)
+      → Triple 𝓤 (𝓣 .C #step) (Step 𝓤 H A mem run)
+      → ent 𝓤 (onEntry 𝓤 H A judge.signature (κ, (κ′, (κ″, tt))) (q, (q′, (q″, tt))) x at) (WpFn 𝓤 H (𝓣 .C)
+      (𝓣 .Λ) code.function (rv ∷ tv ∷ pv ∷ vint w64 n ∷ []) Post)
   walk 𝓣 known-new known-begin known =
-      qed W ((‵ (flft κ q) ⊛ (‵ (flft κ′ q′) ⊛ (‵ (flft κ″ q″) ⊛ ‵ ftrue))) ∷ ‵ (owns (ShrSlice (named 0) κ T.the-row ∷ ShrSlice (named 1) κ′ u8 ∷ MutRef (named 2) κ″ Plan ∷ usize ∷ []) x at) ∷ []) ∵ enter ! (𝓣 .C) (𝓣 .Λ) code.function (rv ∷ tv ∷ pv ∷ vint w64 n ∷ []) _ $
-      alloc1 ! (λ l₀. alloc1 ! (λ l₁. alloc1 ! (λ l₂. alloc1 ! (λ l₃. alloc1 ! (λ l₄. alloc1 ! (λ l₅. alloc1 ! (λ l₆. alloc1 ! (λ l₇. alloc1 ! (λ l₈. alloc1 ! (λ l′. alloc1 ! (λ l₉. alloc1 ! (λ l₁₀. alloc1 ! (λ l₁₁. alloc1 ! (λ l₁₂. alloc1 ! (λ l₁₃. alloc1 ! (λ l₁₄. alloc1 ! (λ l₁₅. alloc1 ! (λ l₁₆. alloc0 ! $ params1 ! $
-      pass1 ! (init ! 32 refl (tt, (tt, (record { fits = gr .0 }, tt)))) $ pass1 ! (init ! 30 refl (tt, (tt, (record { fits = gt .0 }, tt)))) $ pass1 ! (init ! 28 refl (tt, tt)) $ pass1 ! (init ! 26 refl (tt, record { fits = nn })) $ pass0 ! $
-      -- [_17; …; _0; …; the tokens; what rows, text, plan and n own]: `new` is called, and its table copied; the other arrays are made, and `begin` is called
-      calls-plain ! (fmOf 𝓤 H (W .laws) 𝓣) (New 𝓤 H A mem run) known-new ((tt, tt, tt, tt, tt), tt) Entries (λ (es : List ℕ). es ≡ zs 256) (Unit {0}) (lasts new′.ended tt tt)
+      qed W ((‵ (flft κ q) ⊛ (‵ (flft κ′ q′) ⊛ (‵ (flft κ″ q″) ⊛ ‵ ftrue)))
+      ∷ ‵ (owns (ShrSlice (named 0) κ T.the-row ∷ ShrSlice (named 1) κ′ u8 ∷ MutRef (named 2) κ″ Plan ∷ usize ∷ [])
+      x at) ∷ []) ∵ enter ! (𝓣 .C) (𝓣 .Λ) code.function (rv ∷ tv ∷ pv ∷ vint w64 n ∷ []) _ $
+      alloc1 ! (λ l₀. alloc1 ! (λ l₁.
+      alloc1 ! (λ l₂. alloc1 ! (λ l₃.
+      alloc1 ! (λ l₄. alloc1 ! (λ l₅.
+      alloc1 ! (λ l₆. alloc1 ! (λ l₇.
+      alloc1 ! (λ l₈. alloc1 ! (λ l′.
+      alloc1 ! (λ l₉. alloc1 ! (λ l₁₀.
+      alloc1 ! (λ l₁₁. alloc1 ! (λ l₁₂.
+      alloc1 ! (λ l₁₃. alloc1 ! (λ l₁₄. alloc1 ! (λ l₁₅. alloc1 ! (λ l₁₆. alloc0 ! $ params1 ! $
+      pass1 ! (init ! 32 refl (tt, (tt, (record { fits = gr .0 }, tt)))) $
+      pass1 ! (init ! 30 refl (tt, (tt, (record { fits = gt .0 }, tt)))) $ pass1 ! (init ! 28 refl (tt, tt)) $
+      pass1 ! (init ! 26 refl (tt, record { fits = nn })) $ pass0 ! $
+      -- [_17; …; _0; …; the tokens; what rows, text, plan and n own]: `new` is called, and its table copied; the other
+      -- arrays are made, and `begin` is called
+      calls-plain ! (fmOf 𝓤 H (W .laws) 𝓣) (New 𝓤 H A mem run) known-new ((tt, tt, tt, tt, tt), tt) Entries
+      (λ (es : List ℕ). es ≡ zs 256) (Unit {0}) (lasts new′.ended tt tt)
       (qed W [] ∵ nothing ! $ nothing ! $ join ! $ frame ! $ nothing ! $ keep ! (0 ∷ []) $ done !) (λ v. id⊢ 𝓤 _) (no-more !) (λ es v are z.
       land ! (from ! (stop !)) (init ! 16 refl (entries-typed es v are)) $
       assigns ! (of-opd ! (load ! (from ! (stop !)) (look ! 16 refl))) (from ! (stop !)) (init ! 24 refl (entries-typed es v are)) $
-      assigns ! (rep ! 768 (lit ! tt)) (from ! (stop !)) (init ! 22 refl (zs16-typed 768)) $ assigns ! (rep ! 32 (lit ! tt)) (from ! (stop !)) (init ! 20 refl (zs64-typed 32)) $
-      calls-plain ! (fmOf 𝓤 H (W .laws) 𝓣) (Begin 𝓤 H A mem run) known-begin ((tt, tt, tt, (n, tt), (vint w64 n ∷ [], tt)), tt) S.the-row (λ (s : State). s ≡ begun n) (Unit {0} × Unit {0}) (lasts begin′.ended tt (n, tt))
-      (asks-one 𝓤 H A W usize (uint-makes 𝓤 H A W w64) n _ (refl, nn)) (λ v. id⊢ 𝓤 _) (and-then ! (load ! (from ! (stop !)) (look ! 27 refl)) (no-more !)) (λ r u is e.
+      assigns ! (rep ! 768 (lit ! tt)) (from ! (stop !)) (init ! 22 refl (zs16-typed 768)) $
+      assigns ! (rep ! 32 (lit ! tt)) (from ! (stop !)) (init ! 20 refl (zs64-typed 32)) $
+      calls-plain ! (fmOf 𝓤 H (W .laws) 𝓣) (Begin 𝓤 H A mem run) known-begin
+      ((tt, tt, tt, (n, tt), (vint w64 n ∷ [], tt)), tt) S.the-row (λ (s : State). s ≡ begun n) (Unit {0}
+      × Unit {0}) (lasts begin′.ended tt (n, tt))
+      (asks-one 𝓤 H A W usize (uint-makes 𝓤 H A W w64) n _ (refl, nn)) (λ v. id⊢ 𝓤 _)
+      (and-then ! (load ! (from ! (stop !)) (look ! 27 refl)) (no-more !)) (λ r u is e.
       -- [_17; …; _0; …; the tokens; what the parameters own]
-      land ! (from ! (stop !)) (init ! 18 refl (typed r u is)) $ rewrite ! 18 (λ (v : Val). ‵ (fat fullShare S′.mir l₈ 0 v)) (val-is r u is) refl $
-      move ! (24 ∷ []) $ owned ! Entries (Is Entries) (array-makes 𝓤 H A W u64 (uint-makes 𝓤 H A W w64) 256) es _ are $ move ! (1 ∷ 0 ∷ []) $ use2 W (‵ (in-memory Entries .lies es l₅ 0)) (array-in 𝓤 H A W u64 256 es v l₅ 0) $
-      move ! (23 ∷ []) $ owned ! Links (Is Links) (array-makes 𝓤 H A W u16 (uint-makes 𝓤 H A W w16) 768) (zs 768) _ (zs16-are 768) $ move ! (1 ∷ 0 ∷ []) $ use2 W (‵ (in-memory Links .lies (zs 768) l₆ 0)) (array-in 𝓤 H A W u16 768 (zs 768) (zs16 768) l₆ 0) $
-      move ! (22 ∷ []) $ owned ! Stack (Is Stack) (array-makes 𝓤 H A W u64 (uint-makes 𝓤 H A W w64) 32) (zs 32) _ (zs64-are 32) $ move ! (1 ∷ 0 ∷ []) $ use2 W (‵ (in-memory Stack .lies (zs 32) l₇ 0)) (array-in 𝓤 H A W u64 32 (zs 32) (zs64 32) l₇ 0) $
+      land ! (from ! (stop !)) (init ! 18 refl (typed r u is)) $
+      rewrite ! 18 (λ (v : Val). ‵ (fat fullShare S′.mir l₈ 0 v)) (val-is r u is) refl $
+      move ! (24 ∷ []) $ owned ! Entries (Is Entries) (array-makes 𝓤 H A W u64 (uint-makes 𝓤 H A W w64) 256) es _ are $
+      move ! (1 ∷ 0 ∷ []) $ use2 W (‵ (in-memory Entries .lies es l₅ 0)) (array-in 𝓤 H A W u64 256 es v l₅ 0) $
+      move ! (23 ∷ []) $ owned ! Links (Is Links) (array-makes 𝓤 H A W u16 (uint-makes 𝓤 H A W w16) 768)
+      (zs 768) _ (zs16-are 768) $ move ! (1 ∷ 0 ∷ []) $
+      use2 W (‵ (in-memory Links .lies (zs 768) l₆ 0)) (array-in 𝓤 H A W u16 768 (zs 768) (zs16 768) l₆ 0) $
+      move ! (22 ∷ []) $ owned ! Stack (Is Stack) (array-makes 𝓤 H A W u64 (uint-makes 𝓤 H A W w64) 32)
+      (zs 32) _ (zs64-are 32) $ move ! (1 ∷ 0 ∷ []) $
+      use2 W (‵ (in-memory Stack .lies (zs 32) l₇ 0)) (array-in 𝓤 H A W u64 32 (zs 32) (zs64 32) l₇ 0) $
       -- [stack; links; entries; _17; …; _8; …; that _7, _6 and _5 die; _4; …; _0; …; the tokens; what the parameters own]
-      move ! (36 ∷ 37 ∷ []) $ split ! $ move ! (1 ∷ []) $ split ! $ move ! (1 ∷ []) $ split ! $ move ! (4 ∷ []) $ fsplit ! $ move ! (1 ∷ []) $ fsplit ! $ move ! (1 ∷ []) $ fsplit ! $
-      -- [what plan owns; what n owns; what text owns; what rows owns; plan's token; true; text's token; rows' token; stack; links; entries; _17; …]
-      forget ! 27 refl $ keep ! (3 ∷ 7 ∷ 2 ∷ 6 ∷ 0 ∷ 4 ∷ 10 ∷ 9 ∷ 8 ∷ 11 ∷ 12 ∷ 13 ∷ 14 ∷ 15 ∷ 16 ∷ 17 ∷ 18 ∷ 19 ∷ 20 ∷ 21 ∷ 22 ∷ 23 ∷ 24 ∷ 25 ∷ 26 ∷ 27 ∷ 28 ∷ 29 ∷ 30 ∷ 31 ∷ 32 ∷ 33 ∷ 34 ∷ 35 ∷ 36 ∷ 37 ∷ 38 ∷ 39 ∷ 40 ∷ 41 ∷ 42 ∷ 43 ∷ []) $
+      move ! (36 ∷ 37 ∷ []) $ split ! $ move ! (1 ∷ []) $ split ! $ move ! (1 ∷ []) $ split ! $ move ! (4 ∷ []) $
+      fsplit ! $ move ! (1 ∷ []) $ fsplit ! $ move ! (1 ∷ []) $ fsplit ! $
+      -- [what plan owns; what n owns; what text owns; what rows owns; plan's token; true; text's token; rows' token;
+      -- stack; links; entries; _17; …]
+      forget ! 27 refl $ keep ! (3 ∷ 7 ∷ 2 ∷ 6 ∷ 0 ∷ 4 ∷ 10 ∷ 9 ∷ 8 ∷ 11 ∷ 12 ∷ 13 ∷ 14 ∷ 15 ∷ 16 ∷ 17 ∷ 18 ∷ 19 ∷ 20
+      ∷ 21 ∷ 22 ∷ 23 ∷ 24 ∷ 25 ∷ 26 ∷ 27 ∷ 28 ∷ 29 ∷ 30 ∷ 31 ∷ 32 ∷ 33 ∷ 34 ∷ 35 ∷ 36 ∷ 37 ∷ 38 ∷ 39 ∷ 40 ∷ 41 ∷ 42
+      ∷ 43 ∷ []) $
       looped 𝓣 known l₀ l₁ l₂ l₃ l₄ l₅ l₆ l₇ l₈ l′ l₉ l₁₀ l₁₁ l₁₂ l₁₃ l₁₄ l₁₅ l₁₆ es r z (held r u is) e))))))))))))))))))))
 
-module _ {M : Type 1} (𝓤 : URA M) (H : Heap 𝓤) (A : Atoms 𝓤) (W : Given 𝓤 H A) (mem : Memory → SProp 𝓤) (run : Routine → Fun 𝓤) (𝓣 : Tables 𝓤 H) (known-new : Triple 𝓤 (𝓣 .C #new) (New 𝓤 H A mem run)) (known-begin : Triple 𝓤 (𝓣 .C #begin) (Begin 𝓤 H A mem run)) (known : Triple 𝓤 (𝓣 .C #step) (Step 𝓤 H A mem run)) where
+module _ {M : Type 1} (𝓤 : URA M) (H : Heap 𝓤) (A : Atoms 𝓤) (W : Given 𝓤 H A) (mem : Memory → SProp 𝓤) (run : Routine
+    → Fun 𝓤) (𝓣 : Tables 𝓤 H) (known-new : Triple 𝓤 (𝓣 .C #new) (New 𝓤 H A mem run))
+    (known-begin : Triple 𝓤 (𝓣 .C #begin) (Begin 𝓤 H A mem run)) (known : Triple 𝓤 (𝓣 .C #step) (Step 𝓤 H A mem run)) where
   judge-walks : Walks 𝓤 H A judge.ended stayed (WpFn 𝓤 H (𝓣 .C) (𝓣 .Λ) code.function) (judge.clauses 𝓤 H A mem run)
   judge-walks = walked 𝓤 H A judge.ended stayed (judge.clauses 𝓤 H A mem run) (WpFn 𝓤 H (𝓣 .C) (𝓣 .Λ) code.function)
       (λ κs. (slice-vals, (slice-vals, (ptr-vals, (uint-vals w64, tt)))))
       (λ κs. (shr-slice-tells (named 0) (κs .0) T.the-row, (shr-slice-tells (named 1) (κs .1 .0) u8, (mut-tells (named 2) (κs .1 .1 .0) Plan, (uint-tells w64, tt)))))
       (λ κs qs bounds a g are. needs 𝓤 _ _ (λ small.
-      walk 𝓤 H A W mem run (κs .0) (κs .1 .0) (κs .1 .1 .0) (qs .0) (qs .1 .0) (qs .1 .1 .0) (a .0 .ptr .0) (a .0 .ptr .1) (a .0 .name) (a .0 .now) (a .1 .0)
-      (a .1 .1 .0 .ptr .0) (a .1 .1 .0 .ptr .1) (a .1 .1 .0 .name) (a .1 .1 .0 .now) (a .1 .1 .1 .0) (are .0 .0 .1) (are .1 .0 .0 .1) (are .1 .1 .1 .0 .1) small 𝓣 known-new known-begin known))
+      walk 𝓤 H A W mem run (κs .0) (κs .1 .0) (κs .1 .1 .0) (qs .0) (qs .1 .0) (qs .1 .1 .0) (a .0 .ptr .0)
+      (a .0 .ptr .1) (a .0 .name) (a .0 .now) (a .1 .0)
+      (a .1 .1 .0 .ptr .0) (a .1 .1 .0 .ptr .1) (a .1 .1 .0 .name) (a .1 .1 .0 .now) (a .1 .1 .1 .0) (are .0 .0 .1)
+      (are .1 .0 .0 .1) (are .1 .1 .1 .0 .1) small 𝓣 known-new known-begin known))
 
   judge-meets : Meets 𝓤 H A judge.signature (WpFn 𝓤 H (𝓣 .C) (𝓣 .Λ) code.function) (judge.spec 𝓤 H A mem run)
   judge-meets = walk-meets 𝓤 H A judge.ended stayed W
@@ -467,6 +579,8 @@ judge-spec 𝓤 H 𝓜 𝓖 𝓡 =
     entered 𝓤 H (tripleOf 𝓤 H (𝓖 .A) judge.signature (judge.spec 𝓤 H (𝓖 .A) (𝓜 .mem) (𝓡 .run)))
     (tables 𝓤 H 𝓜 𝓡 code.env .C) (tables 𝓤 H 𝓜 𝓡 code.env .Λ) #judge code.function (code.unfolded 𝓤 H 𝓜 𝓡)
     (judge-meets 𝓤 H (𝓖 .A) (givenOf 𝓤 H 𝓜 𝓖) (𝓜 .mem) (𝓡 .run) (tablesOf 𝓤 H 𝓜 (tables 𝓤 H 𝓜 𝓡 code.env))
-    (cited 𝓤 H (New 𝓤 H (𝓖 .A) (𝓜 .mem) (𝓡 .run)) 𝓜 𝓡 code.env #new new-def.routine code.calls-format·table·SymbolTable·new (new-thm.met 𝓤 H 𝓜 𝓖 𝓡))
-    (cited 𝓤 H (Begin 𝓤 H (𝓖 .A) (𝓜 .mem) (𝓡 .run)) 𝓜 𝓡 code.env #begin begin-def.routine code.calls-writer·judging·begin (begin-thm.met 𝓤 H 𝓜 𝓖 𝓡))
+    (cited 𝓤 H (New 𝓤 H (𝓖 .A) (𝓜 .mem) (𝓡 .run)) 𝓜 𝓡 code.env #new new-def.routine
+    code.calls-format·table·SymbolTable·new (new-thm.met 𝓤 H 𝓜 𝓖 𝓡))
+    (cited 𝓤 H (Begin 𝓤 H (𝓖 .A) (𝓜 .mem) (𝓡 .run)) 𝓜 𝓡 code.env #begin begin-def.routine
+    code.calls-writer·judging·begin (begin-thm.met 𝓤 H 𝓜 𝓖 𝓡))
     (cited 𝓤 H (Step 𝓤 H (𝓖 .A) (𝓜 .mem) (𝓡 .run)) 𝓜 𝓡 code.env #step step-def.routine code.calls-rows·step (step-thm.met 𝓤 H 𝓜 𝓖 𝓡)))

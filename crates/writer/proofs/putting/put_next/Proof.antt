@@ -27,7 +27,8 @@ same-length c = search needs
 returns : tie.Need-returns
 returns c =
     let s = c .before .before .before .before .before .before in
-    puts-at _ _ (encodedAt (s .args .plan .now) (s .args .i) (itemAt (s .args .text .now) (s .args .row))) (s .args .out .now) _ (c .before .before .put-row .ensures)
+    puts-at _ _ (encodedAt (s .args .plan .now) (s .args .i) (itemAt (s .args .text .now) (s .args .row)))
+    (s .args .out .now) _ (c .before .before .put-row .ensures)
 
 pub put-next-spec : {M : Type 1} → statement M
 put-next-spec =

@@ -18,7 +18,8 @@ same-length c = search needs
 returns : tie.Need-returns
 returns c =
     let s = c .before .before .before .before .before .before .before in
-    rw (at-fixed (s .args .text .now) (s .args .row) (s .args .plan .now) (s .args .i) (c .before .before .before .before .if1 .taken)) (c .before .before .put-fixed .ensures)
+    rw (at-fixed (s .args .text .now) (s .args .row) (s .args .plan .now) (s .args .i)
+    (c .before .before .before .before .if1 .taken)) (c .before .before .put-fixed .ensures)
 
 mul-put-named : tie.Need-mul-put-named
 mul-put-named c = search needs
@@ -30,12 +31,20 @@ code-of-requires : tie.Need-code-of-requires
 code-of-requires c κs = search needs
 
 content-requires : tie.Need-content-requires
-content-requires c κs = (c .before .before .before .before .before .before .before .pre .2, c .before .before .before .before .before .before .before .pre .3, content-text _ (omega (arith, c .before .before .before .if2 .taken)))
+content-requires c κs = (
+  c .before .before .before .before .before .before .before .pre .2,
+  c .before .before .before .before .before .before .before .pre .3,
+  content-text _ (omega (arith, c .before .before .before .if2 .taken)),
+)
 
 put-named-requires : tie.Need-put-named-requires
 put-named-requires c κs =
-    let s = c .before .before .before .before .before .before .before .before in
-    (omega (arith, kind-most (s .args .text .now) (s .args .row) (s .pre .3)), rw (c .before .code-of .ensures, c .content .ensures) (rw (at-name (s .args .text .now) (s .args .row) (s .args .plan .now) (s .args .i) (c .before .before .before .before .if2 .taken)) at (s .pre .4)))
+    let s = c .before .before .before .before .before .before .before .before in (
+      omega (arith, kind-most (s .args .text .now) (s .args .row) (s .pre .3)),
+      rw (c .before .code-of .ensures, c .content .ensures)
+          (rw (at-name (s .args .text .now) (s .args .row) (s .args .plan .now) (s .args .i)
+          (c .before .before .before .before .if2 .taken)) at (s .pre .4)),
+    )
 
 same-length-2 : tie.Need-same-length-2
 same-length-2 c = search needs
@@ -44,7 +53,12 @@ returns-2 : tie.Need-returns-2
 returns-2 c =
     let s = c .before .before .before .before .before .before .before .before .before .before .before in
     let if2′ = c .before .before .before .before .before .before .before .if2 in
-    rw (at-name (s .args .text .now) (s .args .row) (s .args .plan .now) (s .args .i) (if2′ .taken), ← c .before .before .before .content .ensures, ← c .before .before .before .before .code-of .ensures) (c .before .before .put-named .ensures)
+    rw (
+      at-name (s .args .text .now) (s .args .row) (s .args .plan .now) (s .args .i) (if2′ .taken),
+      ← c .before .before .before .content .ensures,
+      ← c .before .before .before .before .code-of .ensures,
+    )
+    (c .before .before .put-named .ensures)
 
 has-content-requires : tie.Need-has-content-requires
 has-content-requires c κs = search needs
@@ -53,13 +67,21 @@ code-of-requires-2 : tie.Need-code-of-requires-2
 code-of-requires-2 c κs = search needs
 
 content-requires-2 : tie.Need-content-requires-2
-content-requires-2 c κs = (c .before .before .before .before .before .before .before .before .pre .2, c .before .before .before .before .before .before .before .before .pre .3, sym (c .before .before .before .has-content .ensures) ∙ c .before .before .if3 .taken)
+content-requires-2 c κs = (
+  c .before .before .before .before .before .before .before .before .pre .2,
+  c .before .before .before .before .before .before .before .before .pre .3,
+  sym (c .before .before .before .has-content .ensures) ∙ c .before .before .if3 .taken,
+)
 
 put-sized-requires : tie.Need-put-sized-requires
 put-sized-requires c κs =
     let s = c .before .before .before .before .before .before .before .before .before in
-    let if1′ = c .before .before .before .before .before .before .if1 in
-    (omega arith, rw (c .before .code-of2 .ensures, c .content2 .ensures) (rw (at-header (s .args .text .now) (s .args .row) (s .args .plan .now) (s .args .i) (if1′ .left) (c .before .before .before .before .before .if2 .left)) at (s .pre .4)))
+    let if1′ = c .before .before .before .before .before .before .if1 in (
+      omega arith,
+      rw (c .before .code-of2 .ensures, c .content2 .ensures)
+          (rw (at-header (s .args .text .now) (s .args .row) (s .args .plan .now) (s .args .i) (if1′ .left)
+          (c .before .before .before .before .before .if2 .left)) at (s .pre .4)),
+    )
 
 same-length-3 : tie.Need-same-length-3
 same-length-3 c = search needs
@@ -69,15 +91,25 @@ returns-3 c =
     let s = c .before .before .before .before .before .before .before .before .before .before .before .before in
     let if1′ = c .before .before .before .before .before .before .before .before .before .if1 in
     let if2′ = c .before .before .before .before .before .before .before .before .if2 in
-    rw (at-header (s .args .text .now) (s .args .row) (s .args .plan .now) (s .args .i) (if1′ .left) (if2′ .left), ← c .before .before .before .content2 .ensures, ← c .before .before .before .before .code-of2 .ensures) (c .before .before .put-sized .ensures)
+    rw (
+      at-header (s .args .text .now) (s .args .row) (s .args .plan .now) (s .args .i) (if1′ .left) (if2′ .left),
+      ← c .before .before .before .content2 .ensures,
+      ← c .before .before .before .before .code-of2 .ensures,
+    )
+    (c .before .before .put-sized .ensures)
 
 code-of-requires-3 : tie.Need-code-of-requires-3
 code-of-requires-3 c κs = search needs
 
 put-header-requires : tie.Need-put-header-requires
 put-header-requires c κs =
-    let s = c .before .before .before .before .before .before .before .before in
-    (omega arith, rw (c .code-of3 .ensures) (rw (at-plain (s .args .text .now) (s .args .row) (s .args .plan .now) (s .args .i) (c .before .before .before .before .before .if1 .left) (c .before .before .before .before .if2 .left) (sym (c .before .before .before .has-content .ensures) ∙ c .before .before .if3 .left)) at (s .pre .4)))
+    let s = c .before .before .before .before .before .before .before .before in (
+      omega arith,
+      rw (c .code-of3 .ensures)
+          (rw (at-plain (s .args .text .now) (s .args .row) (s .args .plan .now) (s .args .i)
+          (c .before .before .before .before .before .if1 .left) (c .before .before .before .before .if2 .left)
+          (sym (c .before .before .before .has-content .ensures) ∙ c .before .before .if3 .left)) at (s .pre .4)),
+    )
 
 same-length-4 : tie.Need-same-length-4
 same-length-4 c = search needs
@@ -88,7 +120,11 @@ returns-4 c =
     let if1′ = c .before .before .before .before .before .before .before .before .if1 in
     let if2′ = c .before .before .before .before .before .before .before .if2 in
     let has-content′ = c .before .before .before .before .before .before .has-content in
-    rw (at-plain (s .args .text .now) (s .args .row) (s .args .plan .now) (s .args .i) (if1′ .left) (if2′ .left) (sym (has-content′ .ensures) ∙ c .before .before .before .before .before .if3 .left), ← c .before .before .before .code-of3 .ensures) (c .before .before .put-header .ensures)
+    rw (
+      at-plain (s .args .text .now) (s .args .row) (s .args .plan .now) (s .args .i) (if1′ .left) (if2′ .left)
+          (sym (has-content′ .ensures) ∙ c .before .before .before .before .before .if3 .left),
+      ← c .before .before .before .code-of3 .ensures,
+    ) (c .before .before .put-header .ensures)
 
 pub put-row-spec : {M : Type 1} → statement M
 put-row-spec =

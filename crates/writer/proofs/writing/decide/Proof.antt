@@ -15,7 +15,8 @@ fail-requires-2 : tie.Need-fail-requires-2
 fail-requires-2 c κs = search needs
 
 returns-2 : tie.Need-returns-2
-returns-2 c = λ rs bs plan er eb v. c .fail2 .ensures ∙ answer-text rs bs plan _ _ _ _ er eb v (c .before .before .if1 .left) (c .before .if2 .taken)
+returns-2 c = λ rs bs plan er eb v. c .fail2 .ensures
+    ∙ answer-text rs bs plan _ _ _ _ er eb v (c .before .before .if1 .left) (c .before .if2 .taken)
 
 error-of-requires : tie.Need-error-of-requires
 error-of-requires c κs = search needs
@@ -28,7 +29,8 @@ returns-3 c =
     let if2′ = c .before .before .before .before .if2 in
     let if1′ = c .before .before .before .before .before .if1 in
     λ rs bs plan er eb v.
-    c .fail3 .ensures ∙ answer-refused rs bs plan _ _ _ _ er eb v (if1′ .left) (if2′ .left) _ (c .before .before .if3 .taken) (c .before .error-of .ensures)
+    c .fail3 .ensures ∙ answer-refused rs bs plan _ _ _ _ er eb v (if1′ .left)
+    (if2′ .left) _ (c .before .before .if3 .taken) (c .before .error-of .ensures)
 
 is-due-requires : tie.Need-is-due-requires
 is-due-requires c κs = search needs
@@ -42,7 +44,8 @@ returns-4 c =
     let back = c .before .before .before .before .before in
     let if1′ = back .before .if1 in
     λ rs bs plan er eb v.
-    c .fail4 .ensures ∙ answer-due rs bs plan _ _ _ _ er eb v (if1′ .left) (if2′ .left) (c .before .before .before .if3 .left) (sym (c .before .before .is-due .ensures) ∙ c .before .if4 .taken)
+    c .fail4 .ensures ∙ answer-due rs bs plan _ _ _ _ er eb v (if1′ .left) (if2′ .left)
+    (c .before .before .before .if3 .left) (sym (c .before .before .is-due .ensures) ∙ c .before .if4 .taken)
 
 is-over-requires : tie.Need-is-over-requires
 is-over-requires c κs = search needs
@@ -59,7 +62,8 @@ returns-5 c =
     let if1′ = back .before .before .before .if1 in
     λ rs bs plan er eb v.
     c .fail5 .ensures
-    ∙ answer-over rs bs plan _ _ _ _ er eb v (if1′ .left) (if2′ .left) (if3′ .left) (sym (is-due′ .ensures) ∙ c .before .before .before .if4 .left) (sym (c .before .before .is-over .ensures) ∙ c .before .if5 .taken)
+    ∙ answer-over rs bs plan _ _ _ _ er eb v (if1′ .left) (if2′ .left) (if3′ .left) (sym (is-due′ .ensures)
+    ∙ c .before .before .before .if4 .left) (sym (c .before .before .is-over .ensures) ∙ c .before .if5 .taken)
 
 returns-6 : tie.Need-returns-6
 returns-6 c =
@@ -68,7 +72,9 @@ returns-6 c =
     let if2′ = back .before .if2 in
     let if1′ = back .before .before .if1 in
     λ rs bs plan er eb v.
-    answer-good rs bs plan _ _ _ _ er eb v (if1′ .left) (if2′ .left) (if3′ .left) (sym (c .before .before .before .is-due .ensures) ∙ c .before .before .if4 .left) (sym (c .before .is-over .ensures) ∙ c .if5 .left)
+    answer-good rs bs plan _ _ _ _ er eb v (if1′ .left) (if2′ .left) (if3′ .left)
+    (sym (c .before .before .before .is-due .ensures) ∙ c .before .before .if4 .left)
+    (sym (c .before .is-over .ensures) ∙ c .if5 .left)
 
 pub decide-spec : {M : Type 1} → statement M
 decide-spec =

@@ -1,4 +1,5 @@
--- `listed::table::Table::read` meets its contract: a walk of its MIR, by hand, with no branch and no loop. All that it knows of `read` is that it meets its contract.
+-- `listed::table::Table::read` meets its contract: a walk of its MIR, by hand, with no branch and no loop. All that it
+-- knows of `read` is that it meets its contract.
 -- The rows are a local array, which is lent as a slice for the call, comes back as `read` says, and goes into the result.
 -- Assumes nothing.
 use mathlib.Core.Path.{refl, ap, _∙_}
@@ -106,7 +107,8 @@ made r zs = record { answer = r; rows = zs }
 abbrev made-val : Val → Val → Val
 made-val u w = vstruct (ofList (u ∷ w ∷ []))
 
-made-is : (r : Checked) (u : Val) (zs : List Row) (w : Val) → Is N.the-row r (u ∷ []) → Is Rs zs (w ∷ []) → Is Z.the-row (made r zs) (made-val u w ∷ [])
+made-is : (r : Checked) (u : Val) (zs : List Row) (w : Val) → Is N.the-row r (u ∷ []) → Is Rs zs (w ∷ [])
+    → Is Z.the-row (made r zs) (made-val u w ∷ [])
 made-is r u zs w is are = ((u ∷ [], (w ∷ [], tt)), (refl, (is, (as-field T.the-type max-rows zs (w ∷ []) are, tt))))
 
 module _ {M : Type 1} (𝓤 : URA M) (H : Heap 𝓤) (A : Atoms 𝓤) (mem : Memory → SProp 𝓤) (run : Routine → Fun 𝓤) where
@@ -114,7 +116,8 @@ module _ {M : Type 1} (𝓤 : URA M) (H : Heap 𝓤) (A : Atoms 𝓤) (mem : Mem
   abbrev Reads : Contract 𝓤
   Reads = tripleOf 𝓤 H A reads.signature (reads.spec 𝓤 H A mem run)
 
-module _ {M : Type 1} (𝓤 : URA M) (H : Heap 𝓤) (A : Atoms 𝓤) (W : Given 𝓤 H A) (mem : Memory → SProp 𝓤) (run : Routine → Fun 𝓤) (κ : Lft) (q : Share) (bx : RefT (List ℕ)) (gb : Room u8 (length (bx .now))) where
+module _ {M : Type 1} (𝓤 : URA M) (H : Heap 𝓤) (A : Atoms 𝓤) (W : Given 𝓤 H A) (mem : Memory → SProp 𝓤) (run : Routine
+    → Fun 𝓤) (κ : Lft) (q : Share) (bx : RefT (List ℕ)) (gb : Room u8 (length (bx .now))) where
   abbrev bs : List ℕ
   bs = bx .now
 
@@ -134,12 +137,18 @@ module _ {M : Type 1} (𝓤 : URA M) (H : Heap 𝓤) (A : Atoms 𝓤) (W : Given
   tabled : (r : Checked) (zs : List Row) → Read Lenient bs blanks r zs → Tabled bs (made r zs)
   tabled r zs e =
       let l = length-replicate max-rows blank in
-      record { answer = e .answer ∙ ap (λ (n : ℕ). counts (options Lenient n) bs) l; filled = e .filled ∙ ap (λ (n : ℕ). stored blanks (table.rows (options Lenient n) bs)) l }
+      record {
+        answer = e .answer ∙ ap (λ (n : ℕ). counts (options Lenient n) bs) l;
+        filled = e .filled
+            ∙ ap (λ (n : ℕ). stored blanks (table.rows (options Lenient n) bs)) l;
+      }
 
-  exits : (r : Checked) (u : Val) (zs : List Row) (w : Val) → Read Lenient bs blanks r zs → Is N.the-row r (u ∷ []) → Is Rs zs (w ∷ []) → ent 𝓤 (⋆ 𝓤 H A (‵ (flft κ q) ∷ ‵ Bytes ∷ [])) (Post (made-val u w))
+  exits : (r : Checked) (u : Val) (zs : List Row) (w : Val) → Read Lenient bs blanks r zs → Is N.the-row r (u ∷ [])
+      → Is Rs zs (w ∷ []) → ent 𝓤 (⋆ 𝓤 H A (‵ (flft κ q) ∷ ‵ Bytes ∷ [])) (Post (made-val u w))
   exits r u zs w e is are =
       qed W (‵ (flft κ q) ∷ ‵ Bytes ∷ []) ∵
-      suffices ! _ (ends-at 𝓤 H A read.ended stayed (read.clauses 𝓤 H A mem run) W (((κ, tt), (q, tt), tt, (bx, tt), at), tt) (made-val u w) (made r zs) (tt, tt) (tt, tt)) $ says ! (tabled r zs e) $
+      suffices ! _ (ends-at 𝓤 H A read.ended stayed (read.clauses 𝓤 H A mem run) W
+      (((κ, tt), (q, tt), tt, (bx, tt), at), tt) (made-val u w) (made r zs) (tt, tt) (tt, tt)) $ says ! (tabled r zs e) $
       nothing ! $ move ! (1 ∷ 0 ∷ []) $ join ! $ frame ! $ nothing ! $ move ! (1 ∷ 0 ∷ []) $ fjoin ! $ frame ! $
       owned ! Z.the-row (Is Z.the-row) ((LL.makes Z.the-type Z′.the-plain) 𝓤 H A) (made r zs) _ (made-is r u zs w is are) $ done !
 
@@ -160,7 +169,8 @@ module _ {M : Type 1} (𝓤 : URA M) (H : Heap 𝓤) (A : Atoms 𝓤) (W : Given
     ask : ent 𝓤 (⋆ 𝓤 H A ((‵ (flft κ q) ⊛ (‵ (flft (ν ∷ []) fullShare) ⊛ ‵ ftrue)) ∷ ‵ Bytes ∷ ‵ Rows ∷ [])) (Reads 𝓤 H A mem run .pre to)
     ask =
         qed W ((‵ (flft κ q) ⊛ (‵ (flft (ν ∷ []) fullShare) ⊛ ‵ ftrue)) ∷ ‵ Bytes ∷ ‵ Rows ∷ []) ∵
-        nothing ! $ move ! (3 ∷ 0 ∷ []) $ fjoin ! $ move ! (2 ∷ 0 ∷ []) $ fjoin ! $ move ! (1 ∷ 0 ∷ []) $ join ! $ frame ! $ nothing ! $ keep ! (0 ∷ []) $ done !
+        nothing ! $ move ! (3 ∷ 0 ∷ []) $ fjoin ! $ move ! (2 ∷ 0 ∷ []) $ fjoin ! $ move ! (1 ∷ 0 ∷ []) $ join ! $
+        frame ! $ nothing ! $ keep ! (0 ∷ []) $ done !
 
   module _ (C : Calls 𝓤 H) (Λ : Loops 𝓤 H) (fm : FmC 𝓤 H (W .laws) C) (known : Triple 𝓤 (C #reads) (Reads 𝓤 H A mem run)) where
     rows-typed : (zs : List Row) (w : Val) → Is Rs zs (w ∷ []) → Holds (hasTy (tyArray (lone (T.the-row .mir)) max-rows) w) × WT w
@@ -168,47 +178,82 @@ module _ {M : Type 1} (𝓤 : URA M) (H : Heap 𝓤) (A : Atoms 𝓤) (W : Given
 
     walk : ent 𝓤 (onEntry 𝓤 H A read.signature (κ, tt) (q, tt) (bx, tt) at) (WpFn 𝓤 H C Λ code.function (bv ∷ []) Post)
     walk =
-        qed W ((‵ (flft κ q) ⊛ ‵ ftrue) ∷ ‵ (owns (ShrSlice (named 0) κ u8 ∷ []) (bx, tt) at) ∷ []) ∵ enter ! C Λ code.function (bv ∷ []) _ $
-        alloc1 ! (λ l₀. alloc1 ! (λ l₁. alloc1 ! (λ l₂. alloc1 ! (λ l₃. alloc1 ! (λ l₄. alloc1 ! (λ l₅. alloc1 ! (λ l₆. alloc1 ! (λ l₇. alloc0 ! $ params1 ! $
+        qed W ((‵ (flft κ q) ⊛ ‵ ftrue) ∷ ‵ (owns (ShrSlice (named 0) κ u8 ∷ []) (bx, tt) at) ∷ []) ∵ enter ! C Λ
+        code.function (bv ∷ []) _ $
+        alloc1 ! (λ l₀. alloc1 ! (λ l₁.
+        alloc1 ! (λ l₂. alloc1 ! (λ l₃.
+        alloc1 ! (λ l₄. alloc1 ! (λ l₅. alloc1 ! (λ l₆. alloc1 ! (λ l₇. alloc0 ! $ params1 ! $
         pass1 ! (init ! 12 refl (tt, (tt, (record { fits = gb .0 }, tt)))) $ pass0 ! $
         -- [_7; …; _6; …; _5; …; _4; …; _3; …; _2; …; _1; …; _0; …; the token; what bundle owns]: the array is made
-        assigns ! (agg ! (and-then ! (lit ! tt) (and-then ! (lit ! tt) (and-then ! (lit ! tt) (no-more !))))) (from ! (stop !)) (init ! 6 refl (LL.lawful T.the-type T′.the-laws 𝓤 H A W .typed blank _ blank-is .0)) $
-        assigns ! (rep ! max-rows (load ! (from ! (stop !)) (look ! 6 refl))) (from ! (stop !)) (init ! 10 refl (rows-typed blanks av blanks-are)) $
+        assigns ! (agg ! (and-then ! (lit ! tt) (and-then ! (lit ! tt) (and-then ! (lit ! tt) (no-more !)))))
+        (from ! (stop !)) (init ! 6 refl (LL.lawful T.the-type T′.the-laws 𝓤 H A W .typed blank _ blank-is .0)) $
+        assigns ! (rep ! max-rows (load ! (from ! (stop !)) (look ! 6 refl))) (from ! (stop !))
+        (init ! 10 refl (rows-typed blanks av blanks-are)) $
         assigns ! (addr ! (from ! (stop !))) (from ! (stop !)) (init ! 4 refl (tt, tt)) $
-        assigns ! (agg ! (and-then ! (load ! (from ! (stop !)) (look ! 4 refl)) (and-then ! (big-lit ! (record { fits = lit< tt })) (no-more !)))) (from ! (stop !)) (init ! 2 refl (tt, (tt, (record { fits = lit< tt }, tt)))) $
+        assigns ! (agg ! (and-then ! (load ! (from ! (stop !)) (look ! 4 refl))
+        (and-then ! (big-lit ! (record { fits = lit< tt })) (no-more !)))) (from ! (stop !))
+        (init ! 2 refl (tt, (tt, (record { fits = lit< tt }, tt)))) $
         -- its elements are lent, for a lifetime ν of the call
-        move ! (10 ∷ []) $ owned ! Rs (Is Rs) (array-makes 𝓤 H A W T.the-row ((LL.makes T.the-type T′.the-plain) 𝓤 H A) max-rows) blanks _ blanks-are $ move ! (1 ∷ 0 ∷ []) $
-        use2 W (‵ (in-memory Rs .lies blanks l₂ 0)) (array-in 𝓤 H A W T.the-row max-rows blanks av l₂ 0) $ use1 W (‵ (cells (in-memory T.the-row) blanks l₂ 0)) (slice-in 𝓤 H A W T.the-row max-rows tt blanks l₂ 0) $
+        move ! (10 ∷ []) $ owned ! Rs (Is Rs)
+        (array-makes 𝓤 H A W T.the-row ((LL.makes T.the-type T′.the-plain) 𝓤 H A) max-rows) blanks _ blanks-are $
+        move ! (1 ∷ 0 ∷ []) $
+        use2 W (‵ (in-memory Rs .lies blanks l₂ 0)) (array-in 𝓤 H A W T.the-row max-rows blanks av l₂ 0) $
+        use1 W (‵ (cells (in-memory T.the-row) blanks l₂ 0)) (slice-in 𝓤 H A W T.the-row max-rows tt blanks l₂ 0) $
         lft-new ! tt (λ ν. move ! (1 ∷ []) $
-        use1 W (later (some (λ (γ : GName). ‵ (Rows l₂ ν γ) ⊛ ‵ (flent (ν ∷ []) (Held T.the-row max-rows l₂ 0 γ))))) (lends-slice 𝓤 H A W T.the-row (named 1) (ν ∷ []) blanks l₂ 0 room) $ await ! tt $ pick ! (λ γ. split ! $
-        -- [rows, lent; the lender's part; ν's token; _7; …; _6; …; _5; …; _4; …; _3; …; that _2 dies; _1; …; _0; …; the token; what bundle owns]
-        move ! (19 ∷ 18 ∷ []) $ fsplit ! $ use1 W (‵ Bytes ⊛ ‵ Bytes) (shr-slice-copy 𝓤 H A W (named 0) κ u8 .twice bx (bv ∷ [])) $ split ! $
-        move ! (3 ∷ []) $ split ! $ move ! (7 ∷ 1 ∷ []) $ join ! $ move ! (1 ∷ 0 ∷ []) $ join ! $ move ! (0 ∷ 1 ∷ 4 ∷ []) $ use3 W (raw (Reads 𝓤 H A mem run .pre (to l₂ ν γ))) (ask l₂ ν γ) $
+        use1 W (later (some (λ (γ : GName). ‵ (Rows l₂ ν γ) ⊛ ‵ (flent (ν ∷ []) (Held T.the-row max-rows l₂ 0 γ)))))
+        (lends-slice 𝓤 H A W T.the-row (named 1) (ν ∷ []) blanks l₂ 0 room) $ await ! tt $ pick ! (λ γ. split ! $
+        -- [rows, lent; the lender's part; ν's token; _7; …; _6; …; _5; …; _4; …; _3; …; that _2 dies; _1; …; _0; …;
+        -- the token; what bundle owns]
+        move ! (19 ∷ 18 ∷ []) $ fsplit ! $
+        use1 W (‵ Bytes ⊛ ‵ Bytes) (shr-slice-copy 𝓤 H A W (named 0) κ u8 .twice bx (bv ∷ [])) $ split ! $
+        move ! (3 ∷ []) $ split ! $ move ! (7 ∷ 1 ∷ []) $ join ! $ move ! (1 ∷ 0 ∷ []) $ join ! $
+        move ! (0 ∷ 1 ∷ 4 ∷ []) $ use3 W (raw (Reads 𝓤 H A mem run .pre (to l₂ ν γ))) (ask l₂ ν γ) $
         -- [what `read` asks; what bundle owns; true; the lender's part; _7; …; _6; …; _5; …; _4; …; _3; …; that _2 dies; _1; …; _0; …]
-        calls-at ! fm (Reads 𝓤 H A mem run) known (to l₂ ν γ) (and-then ! (load ! (from ! (stop !)) (look ! 15 refl)) (and-then ! (load ! (from ! (stop !)) (look ! 6 refl)) (no-more !))) (λ u.
-        use1 W (later (some (λ (r : Checked). ((‵ (flft κ q) ⊛ (‵ (flft (ν ∷ []) fullShare) ⊛ ‵ ftrue)) ⊛ ‵ (N.the-row .own r (u ∷ []))) ⊛ raw (ensured 𝓤 H A reads.ended (reads.clauses 𝓤 H A mem run) (κ, (ν ∷ [], tt)) (bx, (rx l₂ ν γ, tt)) tt r)))) (id⊢ 𝓤 _) $ await ! tt $ pick ! (λ r.
-        split ! $ move ! (1 ∷ []) $ use1 W (some (λ (ws : Unit {0} × (List Row × Unit {0})). ‵ (lasts reads.ended (κ, (ν ∷ [], tt)) (bx, (rx l₂ ν γ, tt)) ws) ⊛ raw (fact 𝓤 (Read Lenient bs blanks r (ws .1 .0))))) (id⊢ 𝓤 _) $ pick ! (λ ws.
-        split ! $ move ! (1 ∷ []) $ heard ! (Read Lenient bs blanks r (ws .1 .0)) (λ e. fsplit ! $ drop ! $ fsplit ! $ fsplit ! $ move ! (1 ∷ []) $ feqL ! (λ _.
+        calls-at ! fm (Reads 𝓤 H A mem run) known (to l₂ ν γ)
+        (and-then ! (load ! (from ! (stop !)) (look ! 15 refl))
+        (and-then ! (load ! (from ! (stop !)) (look ! 6 refl)) (no-more !))) (λ u.
+        use1 W (later (some (λ (r : Checked). ((‵ (flft κ q) ⊛ (‵ (flft (ν ∷ []) fullShare) ⊛ ‵ ftrue))
+        ⊛ ‵ (N.the-row .own r (u ∷ [])))
+        ⊛ raw (ensured 𝓤 H A reads.ended (reads.clauses 𝓤 H A mem run) (κ, (ν ∷ [], tt)) (bx, (rx l₂ ν γ, tt)) tt
+        r)))) (id⊢ 𝓤 _) $ await ! tt $ pick ! (λ r.
+        split ! $ move ! (1 ∷ []) $
+        use1 W (some (λ (ws : Unit {0} × (List Row × Unit {0})).
+        ‵ (lasts reads.ended (κ, (ν ∷ [], tt)) (bx, (rx l₂ ν γ, tt)) ws)
+        ⊛ raw (fact 𝓤 (Read Lenient bs blanks r (ws .1 .0))))) (id⊢ 𝓤 _) $ pick ! (λ ws.
+        split ! $ move ! (1 ∷ []) $ heard ! (Read Lenient bs blanks r (ws .1 .0)) (λ e. fsplit ! $ drop ! $ fsplit ! $
+        fsplit ! $ move ! (1 ∷ []) $ feqL ! (λ _.
         -- [the last list; true; the tokens and the result; what bundle owns; true; the lender's part; _7; …]
         move ! (2 ∷ []) $ split ! $ move ! (1 ∷ []) $ facts ! N.the-row (Is N.the-row) (shows 𝓤 H A N.the-row) r (u ∷ []) (λ is.
         land ! (from ! (stop !)) (init ! 14 refl (EL.lawful N.the-type N′.the-laws 𝓤 H A W tt .typed r _ is .0)) $
         -- the lifetime is ended, and the array comes back at that list
         split ! $ move ! (1 ∷ []) $ split ! $ lft-end ! tt $ move ! (0 ∷ 7 ∷ 3 ∷ []) $
-        use3 W (later (‵ (Arr (in-memory T.the-row) max-rows .lies (ws .1 .0) l₂ 0))) (slice-back 𝓤 H A W T.the-row (ν ∷ []) γ (ws .1 .0) max-rows l₂ 0) $ await ! tt $ array-cell ! T.the-row max-rows (ws .1 .0) l₂ 0 (λ w are.
+        use3 W (later (‵ (Arr (in-memory T.the-row) max-rows .lies (ws .1 .0) l₂ 0)))
+        (slice-back 𝓤 H A W T.the-row (ν ∷ []) γ (ws .1 .0) max-rows l₂ 0) $ await ! tt $
+        array-cell ! T.the-row max-rows (ws .1 .0) l₂ 0 (λ w are.
         -- [_2; true; the token; true; what bundle owns; true; _7; …; _6; …; _5; …; _4; …; _3; …; that _2 dies; _1; …; _0; …]
         assigns ! (of-opd ! (load ! (from ! (stop !)) (look ! 0 refl))) (from ! (stop !)) (init ! 6 refl (rows-typed (ws .1 .0) w are)) $
-        assigns ! (agg ! (and-then ! (load ! (from ! (stop !)) (look ! 14 refl)) (and-then ! (load ! (from ! (stop !)) (look ! 6 refl)) (no-more !)))) (from ! (stop !)) (init ! 19 refl (LL.lawful Z.the-type Z′.the-laws 𝓤 H A W .typed (made r (ws .1 .0)) _ (made-is r u (ws .1 .0) w is are) .0)) $
-        returns ! (look ! 19 refl) $ forget ! 0 refl $ forget ! 6 refl $ forget ! 8 refl $ forget ! 10 refl $ forget ! 12 refl $ forget ! 14 refl $ forget ! 17 refl $ forget ! 19 refl $
-        move ! (19 ∷ 20 ∷ []) $ free1 ! $ move ! (17 ∷ 18 ∷ []) $ free1 ! $ move ! (0 ∷ 16 ∷ []) $ free1 ! $ move ! (13 ∷ 14 ∷ []) $ free1 ! $ move ! (11 ∷ 12 ∷ []) $ free1 ! $ move ! (9 ∷ 10 ∷ []) $ free1 ! $
-        move ! (7 ∷ 8 ∷ []) $ free1 ! $ move ! (5 ∷ 6 ∷ []) $ free1 ! $ free0 ! $ keep ! (1 ∷ 3 ∷ []) $ by ! (exits r u (ws .1 .0) w e is are))))))))))))))))))
+        assigns ! (agg ! (and-then ! (load ! (from ! (stop !)) (look ! 14 refl))
+        (and-then ! (load ! (from ! (stop !)) (look ! 6 refl)) (no-more !)))) (from ! (stop !))
+        (init ! 19 refl (LL.lawful Z.the-type Z′.the-laws 𝓤 H A W .typed (made r (ws .1 .0)) _
+        (made-is r u (ws .1 .0) w is are) .0)) $
+        returns ! (look ! 19 refl) $ forget ! 0 refl $ forget ! 6 refl $ forget ! 8 refl $ forget ! 10 refl $
+        forget ! 12 refl $ forget ! 14 refl $ forget ! 17 refl $ forget ! 19 refl $
+        move ! (19 ∷ 20 ∷ []) $ free1 ! $ move ! (17 ∷ 18 ∷ []) $ free1 ! $ move ! (0 ∷ 16 ∷ []) $ free1 ! $
+        move ! (13 ∷ 14 ∷ []) $ free1 ! $ move ! (11 ∷ 12 ∷ []) $ free1 ! $ move ! (9 ∷ 10 ∷ []) $ free1 ! $
+        move ! (7 ∷ 8 ∷ []) $ free1 ! $ move ! (5 ∷ 6 ∷ []) $ free1 ! $ free0 ! $ keep ! (1 ∷ 3 ∷ []) $
+        by ! (exits r u (ws .1 .0) w e is are))))))))))))))))))
 
-module _ {M : Type 1} (𝓤 : URA M) (H : Heap 𝓤) (A : Atoms 𝓤) (W : Given 𝓤 H A) (mem : Memory → SProp 𝓤) (run : Routine → Fun 𝓤) (𝓣 : Tables 𝓤 H) (known : Triple 𝓤 (𝓣 .C #reads) (Reads 𝓤 H A mem run)) where
+module _ {M : Type 1} (𝓤 : URA M) (H : Heap 𝓤) (A : Atoms 𝓤) (W : Given 𝓤 H A) (mem : Memory → SProp 𝓤) (run : Routine
+    → Fun 𝓤) (𝓣 : Tables 𝓤 H) (known : Triple 𝓤 (𝓣 .C #reads) (Reads 𝓤 H A mem run)) where
   read-walks : Walks 𝓤 H A read.ended stayed (WpFn 𝓤 H (𝓣 .C) (𝓣 .Λ) code.function) (read.clauses 𝓤 H A mem run)
-  read-walks = walked 𝓤 H A read.ended stayed (read.clauses 𝓤 H A mem run) (WpFn 𝓤 H (𝓣 .C) (𝓣 .Λ) code.function) (λ κs. (slice-vals, tt)) (λ κs. (shr-slice-tells (named 0) (κs .0) u8, tt))
-      (λ κs qs bounds a g are. via 𝓤 _ (fst∗ 𝓤 _ (emp 𝓤)) (walk 𝓤 H A W mem run (κs .0) (qs .0) (a .0) (are .0 .0 .1) (𝓣 .C) (𝓣 .Λ) (fmOf 𝓤 H (W .laws) 𝓣) known))
+  read-walks = walked 𝓤 H A read.ended stayed (read.clauses 𝓤 H A mem run) (WpFn 𝓤 H (𝓣 .C) (𝓣 .Λ) code.function)
+      (λ κs. (slice-vals, tt)) (λ κs. (shr-slice-tells (named 0) (κs .0) u8, tt))
+      (λ κs qs bounds a g are. via 𝓤 _ (fst∗ 𝓤 _ (emp 𝓤)) (walk 𝓤 H A W mem run (κs .0) (qs .0) (a .0) (are .0 .0 .1)
+      (𝓣 .C) (𝓣 .Λ) (fmOf 𝓤 H (W .laws) 𝓣) known))
 
   read-meets : Meets 𝓤 H A read.signature (WpFn 𝓤 H (𝓣 .C) (𝓣 .Λ) code.function) (read.spec 𝓤 H A mem run)
-  read-meets = walk-meets 𝓤 H A read.ended stayed W (goes-none-slice 𝓤 H A W 1 (0 ∷ []) tt (plain (λ _. u8)) yes, tt) (read.clauses 𝓤 H A mem run) (WpFn 𝓤 H (𝓣 .C) (𝓣 .Λ) code.function) (WpFn-mono 𝓤 H (W .laws) 𝓣 code.function) read-walks
+  read-meets = walk-meets 𝓤 H A read.ended stayed W (goes-none-slice 𝓤 H A W 1 (0 ∷ []) tt (plain (λ _. u8)) yes, tt)
+      (read.clauses 𝓤 H A mem run) (WpFn 𝓤 H (𝓣 .C) (𝓣 .Λ) code.function) (WpFn-mono 𝓤 H (W .laws) 𝓣 code.function) read-walks
 
 pub read-spec : {M : Type 1} → stated.statement M
 unfolding code.routine tablesOf
