@@ -9,11 +9,12 @@ use lib.Dec.{ltb}
 use lib.ListN.{length, take, drop, getD, set, length-set}
 use lib.Seq.{drop-cons, drop-length}
 use borrow.Rule.Slice.PartMut.{putMid}
-use Rattle.format.specs.Header.{digits, shift, width, widthFrom, header}
+use Rattle.format.specs.Header.{digits, shift, width, header}
 use Rattle.format.proofs.Tests.{cases, ltb-yes, ltb-no, pick-yes, pick-no}
 use Rattle.format.proofs.Numbers.{length-digits, digits-first}
 use Rattle.format.proofs.Headers.{length-short}
 use Rattle.wire.proofs.Powers.{pow-256}
+use Rattle.wire.proofs.WidthLaws.{width-one}
 use Rattle.wire.proofs.Wrote.{Wrote, start, byte-as, finish, byte-fits, byte-then}
 
 -- ---- numbers
@@ -52,10 +53,6 @@ header-short c p h = pick-yes _ _ (ltb-yes h)
 pub header-long : (c p : ℕ) → 24 ≤ p + shift c → header c p ≡ (c * 32 + 23 + width p) ∷ digits (width p) p
 unfolding header
 header-long c p h = pick-no _ _ (ltb-no h)
-
-width-one : (p : ℕ) → p < 256 → width p ≡ 1
-unfolding width widthFrom
-width-one p h = pick-yes _ _ (ltb-yes h)
 
 pub header-two : (c p : ℕ) → 24 ≤ p + shift c → p < 256 → header c p ≡ (c * 32 + 23 + 1) ∷ p ∷ []
 unfolding digits

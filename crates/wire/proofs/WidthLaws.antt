@@ -1,74 +1,57 @@
--- The width of a payload is a sum of what it reaches, and so is the length of a header. Assumes nothing.
-use mathlib.Core.Path.{_≡_, refl, ap, sym, _∙_}
-use Prim.Native.Nat.{ℕ, zero, suc, _+_, _*_, _^_, _≤_, _<_}
-use native.Mathlib.Nat.{pow-suc}
-use native.Mathlib.Numerals.{add-one}
+-- The width of a payload by its leading zeros, and the length of a header by the width. Assumes nothing.
+use mathlib.Core.Path.{_≡_, refl, sym, _∙_}
+use mathlib.Core.Bool.{Bool, true, false, not}
+use Prim.Native.Nat.{ℕ, suc, _+_, _-_, _*_, _/_, _^_, _≤_, _<_}
+use native.Mathlib.Nat.{lt-of-le-of-lt, lt-of-lt-of-le, not-le-of-lt}
 use native.Mathlib.Omega.{arith}
-use mathlib.Core.Bool.{Bool, true, false}
-use lib.Dec.{leb, ltb}
+use lib.Bits.{bitOr, and-le-l, and-le-r, or-add-and, or-lt}
+use lib.Count.{leadingZeros, leading-top}
+use lib.Dec.{ltb, lit<}
 use lib.ListN.{length}
+use lib.Pow.{pow-mono}
 use mir.Val.{boolByte}
-use Rattle.format.specs.Choice.{pick}
 use Rattle.format.specs.Header.{width, widthFrom, shift, header}
-use Rattle.format.proofs.Tests.{order, leb-yes, leb-no, ltb-yes, ltb-no, pick-yes, pick-no}
 use Rattle.format.proofs.Headers.{length-short, length-long}
-use Rattle.wire.specs.Widths.{reach, reached}
+use Rattle.format.proofs.Numbers.{width-holds}
+use Rattle.format.proofs.Tests.{order, ltb-yes, ltb-no, pick-yes}
+use Rattle.wire.proofs.Powers.{pow-256}
 
-pub reach-yes : {b p : ℕ} → b ≤ p → reach b p ≡ 1
-unfolding reach
-reach-yes l = pick-yes 1 0 (leb-yes l)
+-- ---- by leading zeros
 
-pub reach-no : {b p : ℕ} → p < b → reach b p ≡ 0
-unfolding reach
-reach-no l = pick-no 1 0 (leb-no l)
+-- With its last bit set a number is no less, and not 0.
+or-one-most : (p : ℕ) → p ≤ bitOr p 1
+or-one-most p = omega (arith, or-add-and p 1, and-le-r p 1)
 
--- a test as a number
-pub reach-is : (b p : ℕ) → boolByte (leb b p) ≡ reach b p
-unfolding reach pick
-reach-is b p = go (leb b p)
-  where
-    go : (t : Bool) → boolByte t ≡ pick t 1 0
-    go true = refl
-    go false = refl
+or-one-pos : (p : ℕ) → 0 < bitOr p 1
+or-one-pos p = omega (arith, or-add-and p 1, and-le-l p 1)
 
-pub reach-most : (b p : ℕ) → reach b p ≤ 1
-reach-most b p = order b p (λ l. omega (arith, reach-yes l)) (λ l. omega (arith, reach-no l))
+pow-reflects : (i j : ℕ) → 2 ^ i < 2 ^ j → i < j
+pow-reflects i j l = order j i (λ h. absurd (not-le-of-lt l (pow-mono h))) (λ h. h)
 
--- past the first power that is not reached
-none : (f k p : ℕ) → p < 256 ^ k → reached f k p ≡ 0
-unfolding reached
-none zero k p l = refl
-none (suc f) k p l = let e : 256 ^ (k + 1) ≡ 256 ^ k * 256 = ap (λ n. 256 ^ n) (add-one k)
-    ∙ pow-suc 256 k in omega (arith, reach-no l, none f (k + 1) p (omega (arith, e)))
+-- The highest set bit, of 2 ^ j, stands in the first of the bytes that hold the payload: they hold 2 ^ j, and one fewer
+-- would not.
+pub width-by-zeros : (p : ℕ) → p < 2 ^ 64 → (64 - leadingZeros 64 (bitOr p 1) + 7) / 8 ≡ width p
+width-by-zeros p fits =
+    let w = width-holds p fits in
+    let (j, bits, above, below) = leading-top 64 (bitOr p 1) (or-one-pos p) (or-lt 64 p 1 fits (lit< tt)) in
+    let k : ℕ = (64 - leadingZeros 64 (bitOr p 1) + 7) / 8 in
+    let enough : p < 2 ^ (8 * k) = lt-of-le-of-lt (or-one-most p) (lt-of-lt-of-le below (pow-mono (omega arith))) in
+    let fewest : width p ≤ k = w .fewest k (omega arith) (rw (pow-256 k) enough) in
+    let held : bitOr p 1 < 2 ^ (8 * width p) =
+    or-lt (8 * width p) p 1 (rw (pow-256 (width p)) at (w .holds)) (pow-mono {i = 1} (omega (arith, w .least))) in
+    let least : j < 8 * width p = pow-reflects j (8 * width p) (lt-of-le-of-lt above held) in
+    omega arith
 
-width-from : (f k p : ℕ) → widthFrom f k p ≡ k + reached f k p
-unfolding widthFrom reached
-width-from zero k p = omega arith
-width-from (suc f) k p =
-    order (256 ^ k) p
-    (λ l. pick-no _ _ (ltb-no l) ∙ width-from f (k + 1) p ∙ omega (arith, reach-yes l))
-    (λ l. pick-yes _ _ (ltb-yes l) ∙ omega (arith, none (suc f) k p l))
+-- ---- the length of a header
 
-width-sum : (p : ℕ) → width p ≡ 1 + reached 7 1 p
-unfolding width
-width-sum p = width-from 7 1 p
+pub width-one : (p : ℕ) → p < 256 → width p ≡ 1
+unfolding width widthFrom
+width-one p l = pick-yes _ _ (ltb-yes l)
 
--- with the powers worked out
-pub width-is : (p : ℕ) → 1 + reach 256 p + reach 65536 p + reach 16777216 p + reach 4294967296 p + reach 1099511627776 p
-    + reach 281474976710656 p + reach 72057594037927936 p ≡ width p
-unfolding reached
-width-is p = omega (arith, width-sum p)
-
--- A byte more where the payload does not stand in the lead byte, which has place for those below b.
-pub length-sum : (code p b : ℕ) → b + shift code ≡ 24 → length (header code p) ≡ width p + reach b p
-length-sum code p b e =
-    order b p
-    (λ l. length-long code p (omega arith) ∙ omega (arith, reach-yes l))
-    (λ l. length-short code p (omega arith) ∙ omega (arith, reach-no l, width-sum p, none 7 1 p (omega arith)))
-
--- A header of one byte, or of more.
-pub short-is : (code p : ℕ) → ltb (length (header code p)) 2 ≡ ltb (p + shift code) 24
-short-is code p =
+-- A byte more than the width, unless the payload stands in the lead byte.
+pub length-sum : (code p : ℕ) (inline : Bool) → inline ≡ ltb (p + shift code) 24
+    → width p + boolByte (not inline) ≡ length (header code p)
+length-sum code p inline e =
     order 24 (p + shift code)
-    (λ h. ltb-no {a = length (header code p)} {b = 2} (omega (arith, length-long code p h, width-sum p)) ∙ sym (ltb-no h))
-    (λ h. ltb-yes {a = length (header code p)} {b = 2} (omega (arith, length-short code p h)) ∙ sym (ltb-yes h))
+    (λ l. rw (e, ltb-no l) (omega (arith, length-long code p l)))
+    (λ l. rw (e, ltb-yes l) (omega (arith, length-short code p l, width-one p (omega arith))))

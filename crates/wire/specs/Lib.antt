@@ -2,4 +2,3 @@
 pub mod Heads
 pub mod Numbers
 pub mod Output
-pub mod Widths

@@ -8,7 +8,6 @@ ghost use Rattle.format.specs.Code as Code;
 ghost use Rattle.format.specs.Limits.{max-inline};
 ghost use Rattle.format.specs.Header.{shift, bigEndian, following, headerOf, width, header, isLong};
 ghost use Rattle.wire.specs.Heads.{sizes, max-following, wholeOf};
-ghost use Rattle.wire.specs.Widths.{reach};
 use format::Header;
 use format::Row;
 
@@ -143,25 +142,13 @@ pub fn header_at(s: &[u8], at: usize) -> Head
     Head::Whole(Header::new(code, sz, payload(s, b, n), 1 + n))
 }
 
-// 1 where p is at least a bound, else 0.
-fn reaches(bound: u64, p: u64) -> usize
-    ensures { λ r. ⌜ (r ≡ reach bound p) × (r ≤ 1) ⌝ }
-{
-    (bound <= p) as usize
-}
-
-// The fewest bytes, from 1 to 8, that hold p: a sum, since branches on payloads of mixed widths cannot be foretold.
+// The fewest bytes, from 1 to 8, that hold p: its bits, those without the leading zeros, in whole bytes. 0 has a byte like 1,
+// so the last bit counts as set. No branch, since payloads of mixed widths cannot be foretold.
 pub fn width(p: u64) -> usize
     ensures { λ r. ⌜ r ≡ width p ⌝ }
 {
-    1
-        + reaches(256, p)
-        + reaches(65536, p)
-        + reaches(16777216, p)
-        + reaches(4294967296, p)
-        + reaches(1099511627776, p)
-        + reaches(281474976710656, p)
-        + reaches(72057594037927936, p)
+    let bits = 8 * Lead::MAX_FOLLOWING - u64::leading_zeros(p | 1) as usize;
+    (bits + 7) / 8
 }
 
 // Does the payload stand in the lead byte?
@@ -174,14 +161,11 @@ pub fn is_inline(code: u8, p: u64) -> bool
     p <= Header::MAX_INLINE
 }
 
-// The length of the shortest header.
+// The length of the shortest header: a payload that stands in the lead byte has width 1, any other stands after it.
 pub fn header_len(code: u8, p: u64) -> usize
     ensures { λ r. ⌜ r ≡ length (header code p) ⌝ }
 {
-    if code == Header::BINARY {
-        return width(p) + reaches(Header::MAX_INLINE_BYTES + 1, p);
-    }
-    width(p) + reaches(Header::MAX_INLINE + 1, p)
+    width(p) + !is_inline(code, p) as usize
 }
 
 // Is the header longer than it has to be?
@@ -192,10 +176,5 @@ pub fn is_long(h: Header) -> bool
     if sz as u64 <= Header::MAX_INLINE {
         return false;
     }
-    // most: one byte after the lead byte
-    let size = h.size;
-    if size == 2 {
-        return is_inline(h.code, h.payload);
-    }
-    header_len(h.code, h.payload) < size
+    header_len(h.code, h.payload) < h.size
 }

@@ -45,13 +45,13 @@ pub fn put_header(out: &mut [u8], code: u8, p: u64) -> usize
         out[0] = inline_lead(code, p);
         return 1;
     }
-    if p < 256 {
-        out[0] = code * Lead::SIZES + Header::MAX_INLINE as u8 + 1;
+    let k = width(p);
+    out[0] = code * Lead::SIZES + Header::MAX_INLINE as u8 + k as u8;
+    // most: one byte after the lead byte
+    if k == 1 {
         out[1] = p as u8;
         return 2;
     }
-    let k = width(p);
-    out[0] = code * Lead::SIZES + Header::MAX_INLINE as u8 + k as u8;
     1 + put_number(&mut out[1..], k, p)
 }
 

@@ -1,7 +1,6 @@
--- `wire::header::header_len` meets its contract. Assumes nothing.
-use mathlib.Core.Path.{sym}
+-- `wire::header::header_len` meets its contract: the width, and a byte more after the lead byte. Assumes nothing.
 use native.Mathlib.Omega.{arith}
-use Rattle.format.proofs.Headers.{shift-zero, shift-other}
+use Rattle.format.proofs.Headers.{length-header}
 use Rattle.format.proofs.Numbers.{width-holds}
 use Rattle.wire.proofs.WidthLaws.{length-sum}
 use borrow.Author.Needs.{needs}
@@ -11,46 +10,20 @@ use Rattle.wire.proofs.header.header_len.Tie as tie
 width-requires : tie.Need-width-requires
 width-requires c κs = search needs
 
-add-reaches : tie.Need-add-reaches
-add-reaches c = search needs
+is-inline-requires : tie.Need-is-inline-requires
+is-inline-requires c κs = search needs
 
-reaches-requires : tie.Need-reaches-requires
-reaches-requires c κs = search needs
+cast-result : tie.Need-cast-result
+cast-result c = search needs
 
 add-result : tie.Need-add-result
-add-result c = omega (arith, c .before .width .ensures, width-holds _ (c .before .before .before .fits .p .fits) .most, c .reaches .ensures .1)
+add-result c = 
+    let fits = c .before .before .fits .p .fits in
+    omega (arith, c .before .width .ensures, length-sum (c .before .before .args .code) (c .before .before .args .p) _ (c .is-inline .ensures), length-header (c .before .before .args .code) _ fits, width-holds _ fits .most)
 
 returns : tie.Need-returns
-returns c = rw (c .before .width .ensures, c .reaches .ensures .0)
-    (sym (length-sum _ _ 19 (omega (arith, shift-zero _ (c .before .before .if1 .taken)))))
-
-width-requires-2 : tie.Need-width-requires-2
-width-requires-2 c κs = search needs
-
-add-reaches-2 : tie.Need-add-reaches-2
-add-reaches-2 c = search needs
-
-reaches-requires-2 : tie.Need-reaches-requires-2
-reaches-requires-2 c κs = search needs
-
-add-result-2 : tie.Need-add-result-2
-add-result-2 c = omega (arith, c .before .width2 .ensures, width-holds _ (c .before .before .before .fits .p .fits) .most, c .reaches2 .ensures .1)
-
-returns-2 : tie.Need-returns-2
-returns-2 c = rw (c .before .width2 .ensures, c .reaches2 .ensures .0)
-    (sym (length-sum _ _ 24 (omega (arith, shift-other _ (c .before .before .if1 .left)))))
+returns c = rw (c .before .width .ensures) (length-sum _ _ _ (c .is-inline .ensures))
 
 pub header-len-spec : {M : Type 1} → statement M
 header-len-spec =
-    tie.close
-    (tie.spec
-    width-requires
-    add-reaches
-    reaches-requires
-    add-result
-    returns
-    width-requires-2
-    add-reaches-2
-    reaches-requires-2
-    add-result-2
-    returns-2)
+    tie.close (tie.spec width-requires is-inline-requires cast-result add-result returns)
