@@ -1,45 +1,70 @@
-//! The calls that are timed.
+//! The calls that are measured.
 
-use crate::timing;
+use crate::codec::Codec;
+use crate::message::Message;
 use nachricht::limits::{MAX_BYTES, MAX_ROWS};
-use nachricht::{canonicalize, check, join, read_into, write, Bundle, Error, Mode, Row};
-use std::hint::black_box;
+use nachricht_sys::{Answer, Row};
 
-/// The names of the calls, in the order of [`times`].
-pub const CALLS: [&str; 6] = [
-    "check",
-    "check strict",
-    "read",
-    "write",
-    "canonicalize",
-    "join",
-];
-
-/// Nanoseconds of each call on a canonical message; nothing where joining it with itself is over a limit.
-pub fn times(message: &[u8]) -> [Option<f64>; 6] {
-    let bundle = Bundle::read_strict(message).expect("a canonical message");
-    let mut rows = vec![Row::default(); MAX_ROWS];
-    let mut out = vec![0; MAX_BYTES];
-    [
-        time(|| check(black_box(message), Mode::Lenient)),
-        time(|| check(black_box(message), Mode::Strict)),
-        time(|| read_into(black_box(message), Mode::Lenient, black_box(&mut rows))),
-        time(|| {
-            write(
-                black_box(bundle.rows()),
-                black_box(message),
-                black_box(&mut out),
-            )
-        }),
-        time(|| canonicalize(black_box(message), black_box(&mut out))),
-        time(|| join(black_box(message), black_box(message), black_box(&mut out))),
-    ]
+/// A call, and which encoding of a message it gets.
+#[derive(Clone, Copy, PartialEq, Eq)]
+pub enum Call {
+    Check,
+    CheckStrict,
+    Read,
+    Write,
+    /// Of canonical bytes.
+    Canonicalize,
+    CanonicalizeLoose,
+    Join,
 }
 
-/// Nanoseconds of a call, if it answers without an error.
-fn time<T>(mut call: impl FnMut() -> Result<T, Error>) -> Option<f64> {
-    call().ok()?;
-    Some(timing::nanoseconds(|| {
-        let _ = black_box(call());
-    }))
+/// Each call with its name.
+pub const CALLS: [(Call, &str); 7] = [
+    (Call::Check, "check"),
+    (Call::CheckStrict, "check strict"),
+    (Call::Read, "read"),
+    (Call::Write, "write"),
+    (Call::Canonicalize, "canonicalize"),
+    (Call::CanonicalizeLoose, "canonicalize loose"),
+    (Call::Join, "join"),
+];
+
+/// What a call writes to.
+#[derive(Clone, PartialEq, Eq)]
+pub struct Buffers {
+    pub rows: Vec<Row>,
+    pub out: Vec<u8>,
+}
+
+impl Buffers {
+    /// Large enough for every result, and filled with what no call writes there.
+    pub fn untouched() -> Buffers {
+        let row = Row {
+            kind: 0xEE,
+            number: 0xEE,
+            start: 0xEE,
+        };
+        Buffers {
+            rows: vec![row; MAX_ROWS],
+            out: vec![0xEE; MAX_BYTES],
+        }
+    }
+}
+
+impl Call {
+    /// Makes the call.
+    #[inline(always)]
+    pub fn make(self, codec: &Codec, message: &Message, buffers: &mut Buffers) -> Answer {
+        let canonical = &message.canonical;
+        let Buffers { rows, out } = buffers;
+        match self {
+            Call::Check => (codec.check)(canonical, false),
+            Call::CheckStrict => (codec.check)(canonical, true),
+            Call::Read => (codec.read)(canonical, false, rows),
+            Call::Write => (codec.write)(&message.rows, canonical, out),
+            Call::Canonicalize => (codec.canonicalize)(canonical, out),
+            Call::CanonicalizeLoose => (codec.canonicalize)(&message.loose, out),
+            Call::Join => (codec.join)(&message.first, &message.second, out),
+        }
+    }
 }

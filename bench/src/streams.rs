@@ -1,8 +1,8 @@
 //! Streams of envelopes for the programs: a number of different envelopes, again and again.
 
+use crate::families::{ascii, integers, names, umlauts};
 use crate::jobs;
 use crate::loose::loose;
-use crate::messages::{ascii, integers, names, umlauts};
 use nachricht::limits::{MAX_BYTES, MAX_ENTRIES, MAX_ROWS};
 use nachricht::{enveloped, to_canonical, Bundle};
 use reference::generate::Random;

@@ -9,30 +9,45 @@ const ROUNDS: usize = 40;
 
 /// Nanoseconds of a call.
 pub fn nanoseconds(mut call: impl FnMut()) -> f64 {
-    let calls = calls_in_a_round(&mut call);
-    best(ROUNDS, calls, &mut call).as_nanos() as f64 / calls as f64
+    let mut timer = Timer::new(&mut call);
+    for _ in 0..ROUNDS {
+        timer.round(&mut call);
+    }
+    timer.nanoseconds()
 }
 
-/// How many calls make a round.
-fn calls_in_a_round(call: &mut impl FnMut()) -> usize {
-    let mut calls = 1;
-    loop {
-        // More than one round: a single one that was disturbed would end the search too soon.
-        let time = best(3, calls, call);
-        if ROUND < time * 2 {
-            return calls;
+/// The best round of a call so far.
+pub struct Timer {
+    calls: usize,
+    best: Duration,
+}
+
+impl Timer {
+    /// Finds how many calls make a round.
+    pub fn new(call: &mut impl FnMut()) -> Timer {
+        let mut calls = 1;
+        loop {
+            // More than one round: a single one that was disturbed would end the search too soon.
+            let best = (0..3).map(|_| time(calls, call)).min();
+            let best = best.expect("three rounds");
+            if ROUND < best * 2 {
+                return Timer { calls, best };
+            }
+            calls *= 2;
         }
-        calls *= 2;
+    }
+
+    /// Times one round more.
+    pub fn round(&mut self, call: &mut impl FnMut()) {
+        self.best = self.best.min(time(self.calls, call));
+    }
+
+    pub fn nanoseconds(&self) -> f64 {
+        self.best.as_nanos() as f64 / self.calls as f64
     }
 }
 
-/// The least time of some rounds, at least one, of so many calls.
-fn best(rounds: usize, calls: usize, call: &mut impl FnMut()) -> Duration {
-    let times = (0..rounds).map(|_| round(calls, call));
-    times.min().expect("at least one round")
-}
-
-fn round(calls: usize, call: &mut impl FnMut()) -> Duration {
+fn time(calls: usize, call: &mut impl FnMut()) -> Duration {
     let start = Instant::now();
     for _ in 0..calls {
         call();

@@ -1,0 +1,146 @@
+//! The anchors answer what the reference answers, and leave the same rows and bytes: they do the library's work.
+
+use bench::agreement::differences;
+use bench::codec::{Codec, ANCHORS, LIBRARY};
+use bench::corpora::corpora;
+use comparison::buffer::{capacities, Outcome};
+use comparison::{expected, inputs, row, Tally, MODES};
+use nachricht_sys::{Answer, Row};
+use reference::generate::pairs::{self, Pair};
+use reference::generate::tables::Table;
+use reference::generate::Random;
+use reference::{Mode, MAX_BYTES, MAX_ROWS};
+
+const SEEDS: u64 = 20_000;
+
+/// The number of the error.
+const NOT_CANONICAL: u64 = 11;
+
+/// No reader writes this row, since it has no kind of a row.
+const UNTOUCHED: Row = Row {
+    kind: 0xA5,
+    number: 0xA5A5,
+    start: 0xA5A5,
+};
+
+/// What is measured is the same work.
+#[test]
+fn corpora_agree() {
+    assert_eq!(differences(&corpora()), [""; 0]);
+}
+
+/// What is made canonical from a loose encoding is not canonical before.
+#[test]
+fn loose_encodings_are_not_canonical() {
+    for corpus in corpora() {
+        for message in corpus.messages {
+            let answer = (LIBRARY.check)(&message.loose, true);
+            assert_eq!(answer.error, NOT_CANONICAL, "{}", corpus.name);
+        }
+    }
+}
+
+fn check_and_read(anchor: &Codec, bundle: &[u8], mode: Mode, capacity: usize) -> Answer {
+    let (expected, rows) = expected::read(bundle, mode, capacity);
+    let mut expected_table = vec![UNTOUCHED; capacity];
+    expected_table[..rows.len()].copy_from_slice(&rows);
+    let mut table = vec![UNTOUCHED; capacity];
+    let strict = mode == Mode::Strict;
+    let answer = (anchor.read)(bundle, strict, &mut table);
+    let input = || format!("{}, {mode:?}, {capacity} rows: {bundle:02X?}", anchor.name);
+    assert_eq!(answer, expected, "{}", input());
+    assert!(table == expected_table, "rows differ, {}", input());
+    if capacity == MAX_ROWS {
+        assert_eq!((anchor.check)(bundle, strict), expected, "{}", input());
+    }
+    answer
+}
+
+#[test]
+fn checking_and_reading() {
+    for anchor in &ANCHORS {
+        let mut tallies = MODES.map(Tally::of_reading);
+        for seed in 0..SEEDS {
+            let random = &mut Random::new(seed);
+            let bundle = inputs::bundle(random);
+            let few = random.below(bundle.len().min(MAX_ROWS) + 1);
+            for (mode, tally) in MODES.into_iter().zip(&mut tallies) {
+                for capacity in [few, MAX_ROWS] {
+                    tally.add(check_and_read(anchor, &bundle, mode, capacity));
+                }
+            }
+        }
+        tallies.iter().for_each(Tally::assert_complete);
+    }
+}
+
+#[test]
+fn short_inputs() {
+    for anchor in &ANCHORS {
+        for bundle in inputs::short() {
+            for mode in MODES {
+                check_and_read(anchor, &bundle, mode, MAX_ROWS);
+            }
+        }
+    }
+}
+
+#[test]
+fn writing() {
+    for anchor in &ANCHORS {
+        let mut tally = Tally::of_writing();
+        for seed in 0..SEEDS {
+            let table = inputs::table(&mut Random::new(seed));
+            let Table {
+                rows,
+                text,
+                capacity,
+            } = &table;
+            let expected = Outcome::expected(*capacity, |out| reference::write(rows, text, out));
+            let rows: Vec<Row> = rows.iter().copied().map(row::to_c).collect();
+            let outcome = Outcome::of(*capacity, |out| (anchor.write)(&rows, text, out));
+            outcome.assert_is(&expected, &(anchor.name, &table));
+            tally.add(outcome.answer);
+        }
+        tally.assert_complete();
+    }
+}
+
+#[test]
+fn canonicalizing() {
+    for anchor in &ANCHORS {
+        let mut tally = Tally::of_canonicalizing();
+        for seed in 0..SEEDS {
+            let bundle = inputs::bundle(&mut Random::new(seed));
+            let canonicalize = |out: &mut [u8]| reference::canonicalize(&bundle, out);
+            let length = canonicalize(&mut vec![0; MAX_BYTES]).unwrap_or(bundle.len());
+            for capacity in capacities(length) {
+                let expected = Outcome::expected(capacity, canonicalize);
+                let outcome = Outcome::of(capacity, |out| (anchor.canonicalize)(&bundle, out));
+                outcome.assert_is(&expected, &(anchor.name, &bundle));
+                tally.add(outcome.answer);
+            }
+        }
+        tally.assert_complete();
+    }
+}
+
+#[test]
+fn joining() {
+    for anchor in &ANCHORS {
+        let mut tally = Tally::of_joining();
+        for seed in 0..SEEDS {
+            let pair = pairs::pair(&mut Random::new(seed));
+            let Pair {
+                first,
+                second,
+                capacity,
+            } = &pair;
+            let expected = Outcome::expected(*capacity, |out| reference::join(first, second, out));
+            let outcome = Outcome::of(*capacity, |out| (anchor.join)(first, second, out));
+            outcome.assert_is(&expected, &(anchor.name, &pair));
+            tally.add(outcome.answer);
+        }
+        tally.assert_complete();
+    }
+}
