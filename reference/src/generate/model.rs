@@ -12,7 +12,7 @@ pub struct Meaning {
 }
 
 /// Payloads at which headers grow or meanings change.
-pub const PAYLOADS: [u64; 18] = [
+pub const PAYLOADS: [u64; 25] = [
     0,
     1,
     18,
@@ -20,14 +20,21 @@ pub const PAYLOADS: [u64; 18] = [
     22,
     23,
     24,
-    255,
-    256,
-    0xFFFF,
-    0x1_0000,
-    0xFF_FFFF,
-    0xFFFF_FFFF,
-    0x1_0000_0000,
-    i64::MAX as u64,
+    (1 << 8) - 1,
+    1 << 8,
+    (1 << 16) - 1,
+    1 << 16,
+    (1 << 24) - 1,
+    1 << 24,
+    (1 << 32) - 1,
+    1 << 32,
+    (1 << 40) - 1,
+    1 << 40,
+    (1 << 48) - 1,
+    1 << 48,
+    (1 << 56) - 1,
+    1 << 56,
+    (1 << 63) - 1,
     1 << 63,
     u64::MAX - 1,
     u64::MAX,

@@ -17,9 +17,15 @@ cast-result : tie.Need-cast-result
 cast-result c = search needs
 
 add-result : tie.Need-add-result
-add-result c = 
-    let fits = c .before .before .fits .p .fits in
-    omega (arith, c .before .width .ensures, length-sum (c .before .before .args .code) (c .before .before .args .p) _ (c .is-inline .ensures), length-header (c .before .before .args .code) _ fits, width-holds _ fits .most)
+add-result c =
+    let s = c .before .before in
+    omega (
+      arith,
+      c .before .width .ensures,
+      length-sum (s .args .code) (s .args .p) _ (c .is-inline .ensures),
+      length-header (s .args .code) _ (s .fits .p .fits),
+      width-holds _ (s .fits .p .fits) .most,
+    )
 
 returns : tie.Need-returns
 returns c = rw (c .before .width .ensures) (length-sum _ _ _ (c .is-inline .ensures))

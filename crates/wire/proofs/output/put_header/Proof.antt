@@ -1,32 +1,29 @@
 -- `put_header` writes the shortest header, in each of its three ways. Assumes nothing.
-use mathlib.Core.Path.{_≡_, ap, sym, _∙_}
+use mathlib.Core.Path.{_≡_, sym, _∙_}
 use mathlib.Core.Bool.{Bool, true, false}
-use Prim.Native.Nat.{ℕ, _+_, _^_, _≤_, _<_}
+use Prim.Native.Nat.{ℕ, _+_, _≤_, _<_}
 use native.Mathlib.Nat.{le-of-suc-le-suc}
 use native.Mathlib.Omega.{arith}
 use borrow.Author.Tests.{ltb-true, ltb-false}
 use lib.Dec.{ltb}
 use lib.ListN.{length, length-set}
-use Rattle.format.specs.Header.{shift, width}
+use Rattle.format.specs.Limits.{max-inline}
 use Rattle.format.proofs.Numbers.{width-holds}
 use Rattle.format.proofs.Headers.{length-short, length-long}
 use Rattle.wire.proofs.OutputLaws.{put-short, put-two, long-fits, put-long}
+use Rattle.wire.proofs.WidthLaws.{one-byte}
 use Rattle.wire.proofs.Wrote.{finish-all}
 use borrow.Author.Needs.{needs}
 use Rattle.wire.proofs.output.put_header.Statement.{statement}
 use Rattle.wire.proofs.output.put_header.Tie as tie
 
 -- The payload stands in the lead byte.
-inline : {n : ℕ} {b : Bool} → b ≡ ltb n 24 → b ≡ true → n < 24
+inline : {n : ℕ} {b : Bool} → b ≡ ltb n (max-inline + 1) → b ≡ true → n < max-inline + 1
 inline e t = ltb-true _ _ (sym e ∙ t)
 
 -- It stands after it.
-long : {n : ℕ} {b : Bool} → b ≡ ltb n 24 → b ≡ false → 24 ≤ n
+long : {n : ℕ} {b : Bool} → b ≡ ltb n (max-inline + 1) → b ≡ false → max-inline + 1 ≤ n
 long e f = ltb-false _ _ (sym e ∙ f)
-
--- It stands there in one byte.
-one-byte : {p k : ℕ} → k ≡ width p → k ≡ 1 → p < 2 ^ 64 → p < 256
-one-byte {p} e o l = let w : width p ≡ 1 = sym e ∙ o in rw w at (width-holds p l .holds)
 
 is-inline-requires : tie.Need-is-inline-requires
 is-inline-requires c κs = search needs
@@ -66,12 +63,12 @@ slice-write-out-2 : tie.Need-slice-write-out-2
 slice-write-out-2 c = omega (arith, length-long _ _ (long (c .before .before .is-inline .ensures) (c .before .if1 .left)))
 
 cast-out-3 : tie.Need-cast-out-3
-cast-out-3 c = 
+cast-out-3 c =
     let w = c .before in
-    omega (arith, one-byte (w .width .ensures) (c .if2 .taken) (w .before .before .before .before .fits .p .fits))
+    omega (arith, one-byte (omega (arith, w .width .ensures)) (w .before .before .before .before .fits .p .fits))
 
 slice-write-out-3 : tie.Need-slice-write-out-3
-slice-write-out-3 c = 
+slice-write-out-3 c =
     let w = c .before in
     simp length-set (omega (arith, length-long _ _ (long (w .before .before .is-inline .ensures) (w .before .if1 .left)), w .width .ensures))
 
@@ -79,19 +76,19 @@ same-length-2 : tie.Need-same-length-2
 same-length-2 c = search needs
 
 returns-2 : tie.Need-returns-2
-returns-2 c = 
+returns-2 c =
     let w = c .before in
     let s = w .before .before .before .before in
     put-two _ _ _ (s .pre .1) _ (long (w .before .before .is-inline .ensures) (w .before .if1 .left))
-    (one-byte (w .width .ensures) (c .if2 .taken) (s .fits .p .fits)) (omega arith)
+    (one-byte (omega (arith, w .width .ensures)) (s .fits .p .fits)) (omega arith)
 
 sub-put-number : tie.Need-sub-put-number
-sub-put-number c = 
+sub-put-number c =
     let w = c .before in
     simp length-set (omega (arith, length-long _ _ (long (w .before .before .is-inline .ensures) (w .before .if1 .left))))
 
 part-put-number-start : tie.Need-part-put-number-start
-part-put-number-start c = 
+part-put-number-start c =
     let w = c .before in
     simp length-set (omega (arith, length-long _ _ (long (w .before .before .is-inline .ensures) (w .before .if1 .left))))
 
@@ -99,7 +96,7 @@ part-put-number-end : tie.Need-part-put-number-end
 part-put-number-end c = search needs
 
 put-number-requires : tie.Need-put-number-requires
-put-number-requires c κs = 
+put-number-requires c κs =
     let w = c .before .before in
     let s = w .before .before .before .before in (
       omega (arith, w .width .ensures, width-holds _ (s .fits .p .fits) .most),
@@ -108,20 +105,20 @@ put-number-requires c κs =
     )
 
 add-result : tie.Need-add-result
-add-result c = 
+add-result c =
     let w = c .before .before .before .before .before in
     let s = w .before .before .before .before in
     omega (arith, c .before .before .put-number .ensures .0, w .width .ensures, width-holds _ (s .fits .p .fits) .most)
 
 same-length-3 : tie.Need-same-length-3
-same-length-3 c = 
+same-length-3 c =
     let w = c .before .before .before .before .before in
     let s = w .before .before .before .before in
     put-long _ _ (s .args .out .now) (s .pre .1) _ (long (w .before .before .is-inline .ensures) (w .before .if1 .left))
     (w .width .ensures) _ _ (c .before .before .put-number .ensures .0) (c .before .before .put-number .ensures .1) .long
 
 returns-3 : tie.Need-returns-3
-returns-3 c = 
+returns-3 c =
     let put-number′ = c .before .before .put-number in
     let w = c .before .before .before .before .before in
     let s = w .before .before .before .before in
