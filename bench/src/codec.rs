@@ -23,23 +23,19 @@ pub const LIBRARY: Codec = Codec {
     join: nachricht_sys::join,
 };
 
-pub const HAND: Codec = Codec {
-    name: "hand",
-    check: |bytes, strict| counted(hand::check(bytes, strict)),
-    read: |bytes, strict, rows| counted(hand::read(bytes, strict, rows)),
-    write: |rows, text, out| written(hand::write(rows, text, out)),
-    canonicalize: |bytes, out| written(hand::canonicalize(bytes, out)),
-    join: |first, second, out| written(hand::join(first, second, out)),
-};
-
-pub const TUNED: Codec = Codec {
-    name: "tuned",
-    check: |bytes, strict| counted(tuned::check(bytes, strict)),
-    read: |bytes, strict, rows| counted(tuned::read(bytes, strict, rows)),
-    write: |rows, text, out| written(tuned::write(rows, text, out)),
-    canonicalize: |bytes, out| written(tuned::canonicalize(bytes, out)),
-    join: |first, second, out| written(tuned::join(first, second, out)),
-};
+/// The calls of the module of an anchor.
+macro_rules! anchor {
+    ($module:ident) => {
+        Codec {
+            name: stringify!($module),
+            check: |bytes, strict| counted($module::check(bytes, strict)),
+            read: |bytes, strict, rows| counted($module::read(bytes, strict, rows)),
+            write: |rows, text, out| written($module::write(rows, text, out)),
+            canonicalize: |bytes, out| written($module::canonicalize(bytes, out)),
+            join: |first, second, out| written($module::join(first, second, out)),
+        }
+    };
+}
 
 /// What the library is held against.
-pub const ANCHORS: [Codec; 2] = [HAND, TUNED];
+pub const ANCHORS: [Codec; 2] = [anchor!(hand), anchor!(tuned)];

@@ -11,6 +11,7 @@ pub mod format;
 pub mod jobs;
 pub mod loose;
 pub mod message;
+pub mod processes;
 pub mod ratios;
 pub mod report;
 pub mod streams;

@@ -10,27 +10,30 @@ use std::hint::black_box;
 const ROUNDS: usize = 60;
 
 /// The library, then the anchors.
-const CODECS: [Codec; 3] = [LIBRARY, ANCHORS[0], ANCHORS[1]];
+pub const CODECS: [Codec; 1 + ANCHORS.len()] = [LIBRARY, ANCHORS[0], ANCHORS[1]];
 
 /// All that one run measured: a row for each corpus.
 pub type Run = Vec<Row>;
 
 /// What was measured on a corpus, for each of [`CALLS`].
 pub struct Row {
-    pub corpus: &'static str,
+    pub corpus: String,
     pub calls: Vec<Measured>,
 }
 
-/// Nanoseconds for a message.
+/// Nanoseconds for a message, of each of [`CODECS`].
 pub struct Measured {
-    pub library: f64,
-    anchors: [f64; ANCHORS.len()],
+    pub times: [f64; CODECS.len()],
 }
 
 impl Measured {
+    pub fn library(&self) -> f64 {
+        self.times[0]
+    }
+
     /// The library's time to that of an anchor.
     pub fn ratio(&self, anchor: usize) -> f64 {
-        self.library / self.anchors[anchor]
+        self.library() / self.times[1 + anchor]
     }
 }
 
@@ -47,7 +50,7 @@ pub fn run(corpora: &[Corpus]) -> Run {
         }
     }
     let row = |jobs: &[Job]| Row {
-        corpus: jobs[0].corpus.name,
+        corpus: jobs[0].corpus.name.to_string(),
         calls: jobs.iter().map(Job::measured).collect(),
     };
     jobs.chunks(CALLS.len()).map(row).collect()
@@ -81,8 +84,9 @@ impl<'a> Job<'a> {
     fn measured(&self) -> Measured {
         let messages = self.corpus.messages.len() as f64;
         let times = self.timers.each_ref().map(Timer::nanoseconds);
-        let [library, anchors @ ..] = times.map(|time| time / messages);
-        Measured { library, anchors }
+        Measured {
+            times: times.map(|time| time / messages),
+        }
     }
 }
 

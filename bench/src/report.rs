@@ -7,7 +7,7 @@ use crate::ratios::{Measured, Run};
 /// Prints the library's times, and its ratio to each anchor with the geometric mean of all corpora.
 pub fn print(runs: &[Run]) {
     println!("\nThe library, nanoseconds for a message:\n");
-    print_table(rows(runs, |measured| measured.library), 0);
+    print_table(rows(runs, Measured::library), 0);
     for (number, anchor) in ANCHORS.iter().enumerate() {
         println!("\nThe library's time to that of \"{}\":\n", anchor.name);
         let mut ratios = rows(runs, |measured| measured.ratio(number));
@@ -17,7 +17,7 @@ pub fn print(runs: &[Run]) {
 }
 
 /// A name, and for each call the values of all runs.
-type Row = (&'static str, Vec<Vec<f64>>);
+type Row = (String, Vec<Vec<f64>>);
 
 /// A row for each corpus.
 fn rows(runs: &[Run], value: impl Fn(&Measured) -> f64) -> Vec<Row> {
@@ -28,7 +28,7 @@ fn rows(runs: &[Run], value: impl Fn(&Measured) -> f64) -> Vec<Row> {
                 .map(|run| value(&run[number].calls[call]))
                 .collect()
         };
-        (runs[0][number].corpus, calls.map(values).collect())
+        (runs[0][number].corpus.clone(), calls.map(values).collect())
     };
     (0..runs[0].len()).map(row).collect()
 }
@@ -44,7 +44,10 @@ fn means(rows: &[Row]) -> Row {
             .map(|run| mean(call, run))
             .collect()
     };
-    ("geometric mean", (0..CALLS.len()).map(runs).collect())
+    (
+        "geometric mean".to_string(),
+        (0..CALLS.len()).map(runs).collect(),
+    )
 }
 
 fn print_table(rows: Vec<Row>, decimals: usize) {

@@ -4,7 +4,7 @@ use bench::agreement::differences;
 use bench::codec::{Codec, ANCHORS, LIBRARY};
 use bench::corpora::corpora;
 use comparison::buffer::{capacities, Outcome};
-use comparison::{expected, inputs, row, Tally, MODES};
+use comparison::{inputs, row, table, Tally, MODES};
 use nachricht_sys::{Answer, Row};
 use reference::generate::pairs::{self, Pair};
 use reference::generate::tables::Table;
@@ -15,13 +15,6 @@ const SEEDS: u64 = 20_000;
 
 /// The number of the error.
 const NOT_CANONICAL: u64 = 11;
-
-/// No reader writes this row, since it has no kind of a row.
-const UNTOUCHED: Row = Row {
-    kind: 0xA5,
-    number: 0xA5A5,
-    start: 0xA5A5,
-};
 
 /// What is measured is the same work.
 #[test]
@@ -41,17 +34,11 @@ fn loose_encodings_are_not_canonical() {
 }
 
 fn check_and_read(anchor: &Codec, bundle: &[u8], mode: Mode, capacity: usize) -> Answer {
-    let (expected, rows) = expected::read(bundle, mode, capacity);
-    let mut expected_table = vec![UNTOUCHED; capacity];
-    expected_table[..rows.len()].copy_from_slice(&rows);
-    let mut table = vec![UNTOUCHED; capacity];
-    let strict = mode == Mode::Strict;
-    let answer = (anchor.read)(bundle, strict, &mut table);
-    let input = || format!("{}, {mode:?}, {capacity} rows: {bundle:02X?}", anchor.name);
-    assert_eq!(answer, expected, "{}", input());
-    assert!(table == expected_table, "rows differ, {}", input());
+    let read = |strict, rows: &mut [Row]| (anchor.read)(bundle, strict, rows);
+    let answer = table::compare(read, bundle, mode, capacity);
     if capacity == MAX_ROWS {
-        assert_eq!((anchor.check)(bundle, strict), expected, "{}", input());
+        let checked = (anchor.check)(bundle, mode == Mode::Strict);
+        assert_eq!(checked, answer, "{} {mode:?}: {bundle:02X?}", anchor.name);
     }
     answer
 }

@@ -12,6 +12,7 @@ pub mod refusals;
 pub mod row;
 pub mod run;
 pub mod streams;
+pub mod table;
 mod tally;
 
 pub use tally::Tally;

@@ -1,7 +1,7 @@
 //! `nachricht_read` answers what the reference answers and leaves the same rows, in both modes.
 
-use comparison::{expected, inputs, Tally, MODES};
-use nachricht_sys::{read, Answer, Row};
+use comparison::{inputs, table, Tally, MODES};
+use nachricht_sys::{read, Answer};
 use reference::generate::Random;
 use reference::Mode;
 
@@ -9,16 +9,6 @@ const SEEDS: u64 = 200_000;
 
 /// These after them, each with a table of every length of note.
 const SEEDS_FOR_ALL_LENGTHS: u64 = 4_000;
-
-/// Rows before the table and after it, which no call may change.
-const GUARDS: usize = 3;
-
-/// No reader writes this row, since it has no kind of a row.
-const UNTOUCHED: Row = Row {
-    kind: 0xA5,
-    number: 0xA5A5_A5A5_A5A5_A5A5,
-    start: 0x5A5A,
-};
 
 /// Lengths of a table at which the answer may change, for a bundle of so many rows.
 fn lengths(rows: usize) -> [usize; 10] {
@@ -45,18 +35,14 @@ fn rows_of(bundle: &[u8], mode: Mode, random: &mut Random) -> usize {
     }
 }
 
-/// Compares the answers, and tables of this length with the guards around them.
+/// Compares the answers and the tables of this length.
 fn compare(bundle: &[u8], mode: Mode, length: usize) -> Answer {
-    let (expected_answer, rows) = expected::read(bundle, mode, length);
-    let mut expected = vec![UNTOUCHED; length + 2 * GUARDS];
-    expected[GUARDS..GUARDS + rows.len()].copy_from_slice(&rows);
-    let mut table = vec![UNTOUCHED; length + 2 * GUARDS];
-    let lent = &mut table[GUARDS..GUARDS + length];
-    let answer = read(bundle, mode == Mode::Strict, lent);
-    let input = || format!("{mode:?}, {length} rows: {bundle:02X?}");
-    assert_eq!(answer, expected_answer, "{}", input());
-    assert!(table == expected, "rows differ, {}", input());
-    answer
+    table::compare(
+        |strict, rows| read(bundle, strict, rows),
+        bundle,
+        mode,
+        length,
+    )
 }
 
 #[test]

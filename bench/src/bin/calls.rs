@@ -2,14 +2,18 @@
 
 use bench::agreement::differences;
 use bench::corpora::corpora;
-use bench::{ratios, report};
+use bench::{processes, ratios, report};
 use std::env;
 use std::process::ExitCode;
+
+/// How many runs there are unless said otherwise.
+const RUNS: usize = 3;
 
 fn main() -> ExitCode {
     let arguments: Vec<String> = env::args().skip(1).collect();
     let runs = match &arguments[..] {
-        [] => Some(3),
+        [] => Some(RUNS),
+        [argument] if argument == processes::ONE_RUN => return one_run(),
         [runs] => runs.parse().ok().filter(|runs| *runs > 0),
         _ => None,
     };
@@ -17,14 +21,28 @@ fn main() -> ExitCode {
         eprintln!("usage: calls [RUNS]");
         return ExitCode::FAILURE;
     };
-    let corpora = corpora();
-    let differences = differences(&corpora);
-    if !differences.is_empty() {
-        eprintln!("answers differ:\n{}", differences.join("\n"));
-        return ExitCode::FAILURE;
+    match measure(runs) {
+        Ok(()) => ExitCode::SUCCESS,
+        Err(error) => {
+            eprintln!("calls: {error}");
+            ExitCode::FAILURE
+        }
     }
-    println!("Answers agree. The range of {runs} runs:");
-    let runs: Vec<_> = (0..runs).map(|_| ratios::run(&corpora)).collect();
-    report::print(&runs);
+}
+
+/// Measures once, for the process that started this one.
+fn one_run() -> ExitCode {
+    processes::print(&ratios::run(&corpora()));
     ExitCode::SUCCESS
+}
+
+fn measure(runs: usize) -> Result<(), String> {
+    let differences = differences(&corpora());
+    if !differences.is_empty() {
+        return Err(format!("answers differ:\n{}", differences.join("\n")));
+    }
+    println!("Answers agree. Runs: {runs}.");
+    let runs: Result<Vec<_>, _> = (0..runs).map(|_| processes::run()).collect();
+    report::print(&runs?);
+    Ok(())
 }
