@@ -142,8 +142,8 @@ pub fn header_at(s: &[u8], at: usize) -> Head
     Head::Whole(Header::new(code, sz, payload(s, b, n), 1 + n))
 }
 
-// The fewest bytes, from 1 to 8, that hold p: its bits, those without the leading zeros, in whole bytes. 0 has a byte like 1,
-// so the last bit counts as set. No branch, since payloads of mixed widths cannot be foretold.
+// The fewest bytes, from 1 to 8, that hold p: its bits without the leading zeros, in whole bytes. 0 takes a byte too, so
+// the last bit counts as set. No branch, since payloads of mixed widths cannot be foretold.
 pub fn width(p: u64) -> usize
     ensures { λ r. ⌜ r ≡ width p ⌝ }
 {
