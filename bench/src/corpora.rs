@@ -20,13 +20,16 @@ const BOARDS: usize = 64;
 
 const INTEGERS: usize = 1_000;
 
+/// Any would do.
+const SEED: u64 = 204;
+
 /// How many strings, of how many bytes.
 const STRINGS: usize = 8;
 const STRING_BYTES: usize = 2_036;
 
 /// All corpora, always the same.
 pub fn corpora() -> Vec<Corpus> {
-    let random = &mut Random::new(204);
+    let random = &mut Random::new(SEED);
     vec![
         corpus("line", 1, random, |random| board(1, random)),
         corpus("board", 1, random, |random| board(LINES, random)),

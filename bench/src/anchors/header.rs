@@ -1,6 +1,6 @@
 //! Headers, for both anchors: read at an offset, measured, and made.
 
-use crate::format::{code, sz};
+use crate::format::{code, sz, NEGATIVE_ALIAS};
 
 /// A header that was read.
 #[derive(Clone, Copy)]
@@ -42,6 +42,18 @@ impl Header {
     pub fn is_long(self) -> bool {
         self.sz > sz::MAX_INLINE
             && (is_inline(self.code, self.number) || width(self.number) != self.following())
+    }
+
+    /// Whether this is the second encoding of the least integer.
+    #[inline(always)]
+    pub fn is_alias(self) -> bool {
+        self.code == code::NEGATIVE && self.number == NEGATIVE_ALIAS
+    }
+
+    /// The number that the row of an integer or a container has.
+    #[inline(always)]
+    pub fn row_number(self) -> u64 {
+        self.number - u64::from(self.is_alias())
     }
 
     /// How many bytes of content follow the header of a value without text, code 0.

@@ -4,7 +4,7 @@ use super::header::Header;
 use super::output::Output;
 use super::table::{Entries, Entry, Name, Table, NO_SLOTS};
 use super::{Counts, Error, Failure};
-use crate::format::{code, sz, NEGATIVE_ALIAS};
+use crate::format::{code, sz};
 use nachricht::limits::{MAX_BYTES, MAX_ENTRIES, MAX_ROWS};
 
 /// Checks both bundles, and judges how many rows they have.
@@ -72,10 +72,7 @@ impl<O: Output> Joiner<'_, O> {
             } = header;
             offset = end;
             match code {
-                code::POSITIVE..=code::CONTAINER => {
-                    let is_alias = code == code::NEGATIVE && number == NEGATIVE_ALIAS;
-                    self.out.header(code, number - u64::from(is_alias));
-                }
+                code::POSITIVE..=code::CONTAINER => self.out.header(code, header.row_number()),
                 code::REFERENCE => {
                     let index = indices[number as usize % MAX_ENTRIES];
                     self.out.header(code, index.into());
@@ -87,10 +84,8 @@ impl<O: Output> Joiner<'_, O> {
                 }
                 code::SYMBOL | code::KEY => {
                     let content = part(bytes, end, number)?;
-                    let index = self.name(
-                        Entry::new(end, content.len(), code == code::KEY).in_second(second),
-                        content,
-                    )?;
+                    let entry = Entry::new(end, content.len(), code == code::KEY);
+                    let index = self.name(entry.in_second(second), content)?;
                     indices[entries % MAX_ENTRIES] = index as u8;
                     entries += 1;
                     offset += content.len();

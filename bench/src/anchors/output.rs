@@ -1,7 +1,7 @@
 //! Where items go, one after the other.
 
 use super::header::{inline_lead, is_inline, long_lead, width};
-use crate::format::code;
+use crate::format::{code, kind};
 
 pub trait Output {
     /// The shortest header.
@@ -16,6 +16,17 @@ pub trait Output {
     #[inline(always)]
     fn reference(&mut self, _item: usize, index: usize) {
         self.header(code::REFERENCE, index as u64);
+    }
+
+    /// A value of a fixed size: its kind, which is its lead byte, and the bits of a float.
+    #[inline(always)]
+    fn fixed(&mut self, kind: u8, bits: u64) {
+        self.bytes(&[kind]);
+        match kind {
+            kind::FLOAT32 => self.bytes(&(bits as u32).to_be_bytes()),
+            kind::FLOAT64 => self.bytes(&bits.to_be_bytes()),
+            _ => {}
+        }
     }
 
     /// A header, and the content that it counts.

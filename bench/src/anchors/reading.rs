@@ -6,7 +6,7 @@ use super::row;
 use super::table::{Entries, Entry, Name, Table, NO_SLOTS};
 use super::utf8::Utf8;
 use super::{Counts, Error, Failure};
-use crate::format::{code, kind, kind_of, NEGATIVE_ALIAS};
+use crate::format::{code, kind, kind_of};
 use nachricht::limits::{MAX_BYTES, MAX_DEPTH};
 use nachricht_sys::Row;
 use std::marker::PhantomData;
@@ -87,14 +87,13 @@ impl<'a, const STRICT: bool, U: Utf8, R: Rows> Reader<'a, STRICT, U, R> {
         let Header {
             number, mut end, ..
         } = header;
-        let is_alias = header.code == code::NEGATIVE && number == NEGATIVE_ALIAS;
-        if STRICT && (header.is_long() || is_alias) {
+        if STRICT && (header.is_long() || header.is_alias()) {
             return Error::NotCanonical.at(offset);
         }
         // Keys, and containers with fields, return; all others are whole values and go on together.
         let row = match header.code {
             code::POSITIVE | code::NEGATIVE => {
-                row::plain(kind_of(header.code), number - u64::from(is_alias))
+                row::plain(kind_of(header.code), header.row_number())
             }
             code::CONTAINER if self.containers.are_full() => return Error::TooDeep.at(offset),
             code::CONTAINER if number != 0 => return self.open(offset, number, end),

@@ -25,7 +25,7 @@ pub fn judge_sizes(rows: &[Row], text: &[u8]) -> Result<(), Failure> {
     Ok(())
 }
 
-/// Puts the rows into the output; how many bytes they take, or which of them is bad.
+/// Puts the rows into the output, or says which of them is bad.
 #[inline(always)]
 pub fn write<U: Utf8>(rows: &[Row], text: &[u8], out: &mut impl Output) -> Result<(), Failure> {
     let (mut entries, mut slots) = (Entries::NONE, NO_SLOTS);
@@ -64,8 +64,8 @@ struct Writer<'a, U, O> {
 }
 
 impl<'a, U: Utf8, O: Output> Writer<'a, U, O> {
-    /// Judges the rows and puts them into the output. The loop is here, where the rules are, so that an error leaves it
-    /// at once.
+    /// Judges the rows and puts them into the output. One long function: with a function for a row, or one arm for both
+    /// sorts of names, "tuned" took 1.4 times as long to write integers, since the compiler ran out of registers.
     #[inline(always)]
     fn rows(&mut self, rows: &[Row]) -> Result<(), Failure> {
         for (place, row) in rows.iter().enumerate() {
@@ -119,15 +119,11 @@ impl<'a, U: Utf8, O: Output> Writer<'a, U, O> {
     #[inline(always)]
     fn fixed(&mut self, place: usize, row: &Row) -> Result<(), Failure> {
         match row.kind {
-            kind::NULL..=kind::FALSE if row.number == 0 => self.out.bytes(&[row.kind]),
+            kind::NULL..=kind::FALSE if row.number == 0 => self.out.fixed(row.kind, 0),
             kind::FLOAT32 if row.number <= u32::MAX.into() => {
-                self.out.bytes(&[row.kind]);
-                self.out.bytes(&(row.number as u32).to_be_bytes());
+                self.out.fixed(kind::FLOAT32, row.number);
             }
-            kind::FLOAT64 => {
-                self.out.bytes(&[row.kind]);
-                self.out.bytes(&row.number.to_be_bytes());
-            }
+            kind::FLOAT64 => self.out.fixed(kind::FLOAT64, row.number),
             _ => return Error::InvalidRow.at(place),
         }
         Ok(())

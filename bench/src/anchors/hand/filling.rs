@@ -3,7 +3,7 @@
 use crate::anchors::header::Header;
 use crate::anchors::row;
 use crate::anchors::table::{Entries, Entry};
-use crate::format::{code, kind, kind_of, NEGATIVE_ALIAS};
+use crate::format::{code, kind, kind_of};
 use nachricht_sys::Row;
 
 /// Fills in all rows of the bundle.
@@ -20,10 +20,7 @@ pub fn fill(bytes: &[u8], rows: &mut [Row]) {
         } = header;
         offset = end;
         *filled = match code {
-            code::POSITIVE..=code::CONTAINER => {
-                let is_alias = code == code::NEGATIVE && number == NEGATIVE_ALIAS;
-                row::plain(kind_of(code), number - u64::from(is_alias))
-            }
+            code::POSITIVE..=code::CONTAINER => row::plain(kind_of(code), header.row_number()),
             code::REFERENCE => entries.get(number as usize).row(),
             code::STRING => {
                 offset += number as usize;

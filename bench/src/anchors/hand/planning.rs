@@ -61,15 +61,7 @@ pub fn put(rows: &[Row], text: &[u8], references: &References, mut out: impl Out
                 let content = &text[row.start..row.start + number as usize];
                 out.content(code_of(row.kind), content);
             }
-            kind::FLOAT32 => {
-                out.bytes(&[row.kind]);
-                out.bytes(&(number as u32).to_be_bytes());
-            }
-            kind::FLOAT64 => {
-                out.bytes(&[row.kind]);
-                out.bytes(&number.to_be_bytes());
-            }
-            _ => out.bytes(&[row.kind]),
+            _ => out.fixed(row.kind, number),
         }
     }
 }

@@ -53,8 +53,8 @@ fn word<const N: usize>(text: &[u8], start: usize) -> Option<[u8; N]> {
     text.get(start..)?.first_chunk().copied()
 }
 
-/// The condensed rule: a byte continues a character exactly if one of the three before it is due that, none is C0, C1 or
-/// F5 to FF, and at the end nothing is due.
+/// The condensed rule: a byte continues a character exactly where that is due by one of the three before it; none is C0, C1
+/// or F5 to FF; and at the end nothing is due.
 #[inline(never)]
 fn by_windows(text: &[u8]) -> bool {
     let length = text.len();
