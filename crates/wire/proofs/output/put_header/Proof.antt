@@ -29,7 +29,8 @@ is-inline-requires : tie.Need-is-inline-requires
 is-inline-requires c κs = search needs
 
 inline-lead-requires : tie.Need-inline-lead-requires
-inline-lead-requires c κs = (c .before .before .before .pre .0, le-of-suc-le-suc (inline (c .before .is-inline .ensures) (c .if1 .taken)))
+inline-lead-requires c κs =
+    (c .before .before .before .pre .0, le-of-suc-le-suc (inline (c .before .is-inline .ensures) (c .if1 .taken)))
 
 slice-write-out : tie.Need-slice-write-out
 slice-write-out c = omega (arith, length-short _ _ (inline (c .before .before .is-inline .ensures) (c .before .if1 .taken)))
@@ -70,7 +71,8 @@ cast-out-3 c =
 slice-write-out-3 : tie.Need-slice-write-out-3
 slice-write-out-3 c =
     let w = c .before in
-    simp length-set (omega (arith, length-long _ _ (long (w .before .before .is-inline .ensures) (w .before .if1 .left)), w .width .ensures))
+    simp length-set
+    (omega (arith, w .width .ensures, length-long _ _ (long (w .before .before .is-inline .ensures) (w .before .if1 .left))))
 
 same-length-2 : tie.Need-same-length-2
 same-length-2 c = search needs
