@@ -1,4 +1,4 @@
-//! A run in a process of its own, since where a process has its stack and its code makes some calls faster or slower.
+//! A run in a process of its own: runs in one process agree with each other better than with those of the next.
 
 use crate::calls::CALLS;
 use crate::ratios::{Measured, Row, Run, CODECS};

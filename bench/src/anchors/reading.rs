@@ -78,7 +78,8 @@ struct Reader<'a, const STRICT: bool, U, R> {
 }
 
 impl<'a, const STRICT: bool, U: Utf8, R: Rows> Reader<'a, STRICT, U, R> {
-    /// Judges the item at an offset, and answers where it ends.
+    /// Judges the item at an offset, and answers where it ends. One long function: with the rules for the header in one of
+    /// their own, "tuned" took 1.15 times as long to check boards (one run).
     #[inline(always)]
     fn item(&mut self, offset: usize, lead: u8) -> Result<usize, Failure> {
         let Some(header) = Header::at(self.bytes, offset, lead) else {
