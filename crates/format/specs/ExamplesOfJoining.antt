@@ -8,7 +8,7 @@ use Rattle.format.specs.declared.error.Error.the-variants.{InvalidUtf8, 
 use Rattle.format.specs.Choice.{pick}
 use Rattle.format.specs.Answer.{Failure, fail, failed, first, good, onSide, rule, then, unless}
 use Rattle.format.specs.Header.{bigEndian, digits, following, header, headerOf, isLong, isNegativeAlias, payloadOf, shift, width, widthFrom}
-use Rattle.format.specs.Utf8.{goodAfter, leads, utf8, within}
+use Rattle.format.specs.Utf8.{badAt, isNone, leads, orZero, stop, stopAfter, utf8, within}
 use Rattle.format.specs.Item.{isContainer, isKey, isName, isText}
 use Rattle.format.specs.Names.{added, index, indexFrom, isSome, namesFrom, noted, same, sameName}
 use Rattle.format.specs.Place.{due, ended, moved, top}
@@ -20,14 +20,14 @@ use Rattle.format.specs.Samples.{ahead, job, names, names-items, null, r
 
 -- A failure on one side.
 abbrev refused : Error → ℕ → ℕ → Failure
-refused error place side = record { error = error; place = place; side = side }
+refused error place side = record { error = error; place = place; side = side; row = 0 }
 
--- a reference to nothing, at offset 5, and a string that is not UTF-8, at offset 6
+-- a reference to nothing, at offset 5, and a string that is not UTF-8, by its byte at offset 7
 abbrev bad-reference : List ℕ
 bad-reference = ahead (0x00 ∷ 0xe0 ∷ [])
 
 abbrev bad-string : List ℕ
-bad-string = ahead (0x00 ∷ 0x00 ∷ 0x81 ∷ 0xff ∷ [])
+bad-string = ahead (0x00 ∷ 0x82 ∷ 0x64 ∷ 0xff ∷ [])
 
 abbrev pub JoiningExamples : Type 0
 JoiningExamples =
@@ -38,7 +38,7 @@ JoiningExamples =
     ≡ good (0xa1 ∷ 0x64 ∷ 0xa1 ∷ 0x6d ∷ 0xe1 ∷ 0xe0 ∷ 0xe1 ∷ 0xe0 ∷ []))
     -- a bundle that does not read, on side 1 and on side 2; of two, the first
     × (joining lenient bad-reference job 99 ≡ failed (refused UndefinedReference 5 1))
-    × (joining lenient job bad-string 99 ≡ failed (refused InvalidUtf8 6 2))
+    × (joining lenient job bad-string 99 ≡ failed (refused InvalidUtf8 7 2))
     × (joining lenient bad-reference bad-string 99 ≡ failed (refused UndefinedReference 5 1))
     -- what is due at the end of the first is not taken from the second
     × (joining lenient (ahead (0x61 ∷ [])) (0x00 ∷ []) 99 ≡ failed (refused Truncated 5 1))
@@ -52,11 +52,11 @@ JoiningExamples =
     × (joining lenient job job 11 ≡ failed (refused OutputTooLong 0 0))
     × (canonicalizing job 6 ≡ failed (refused OutputTooLong 0 0))
     -- canonicalizing has no side
-    × (canonicalizing bad-string 99 ≡ failed (refused InvalidUtf8 6 0))
+    × (canonicalizing bad-string 99 ≡ failed (refused InvalidUtf8 7 0))
 
 pub joining-examples : JoiningExamples
 unfolding pick rule first fail unless then onSide bigEndian digits shift following payloadOf headerOf widthFrom width
-    header isLong isNegativeAlias within leads goodAfter utf8 isText isName isKey isContainer same sameName indexFrom
+    header isLong isNegativeAlias within leads stopAfter stop isNone utf8 orZero badAt isText isName isKey isContainer same sameName indexFrom
     index isSome added noted namesFrom top ended moved due itemsOf start formOf isContent itemOf isMissing orNull
     itemRules after headed item ending run reading items full named encoded canonicalFrom canonical fitted together
     joining canonicalizing

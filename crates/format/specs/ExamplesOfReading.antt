@@ -12,7 +12,7 @@ use Rattle.format.specs.Limits.{max-bytes}
 use Rattle.format.specs.Answer.{fail, first, good, rule, then, unless}
 use Rattle.format.specs.Kind as Kind
 use Rattle.format.specs.Header.{bigEndian, digits, following, header, headerOf, isLong, isNegativeAlias, payloadOf, shift, width, widthFrom}
-use Rattle.format.specs.Utf8.{goodAfter, leads, utf8, within}
+use Rattle.format.specs.Utf8.{badAt, isNone, leads, orZero, stop, stopAfter, utf8, within}
 use Rattle.format.specs.Item.{Item, held, isContainer, isKey, isName, isText, plain}
 use Rattle.format.specs.Names.{added, index, indexFrom, isSome, noted, same, sameName}
 use Rattle.format.specs.Place.{due, ended, moved, top}
@@ -139,9 +139,16 @@ Refusals =
     -- a container's claimed size is not refused by itself
     × (items lenient (0x7f ∷ replicate 8 0xff) ≡ fail Truncated 9)
     -- 3: a string, a symbol, a key; bytes may be any
-    × (items lenient (ahead (0x81 ∷ 0xff ∷ [])) ≡ fail InvalidUtf8 4)
-    × (items lenient (ahead (0xa1 ∷ 0xff ∷ [])) ≡ fail InvalidUtf8 4)
-    × (items lenient (ahead (0xc1 ∷ 0xff ∷ [])) ≡ fail InvalidUtf8 4)
+    × (items lenient (ahead (0x81 ∷ 0xff ∷ [])) ≡ fail InvalidUtf8 5)
+    × (items lenient (ahead (0xa1 ∷ 0xff ∷ [])) ≡ fail InvalidUtf8 5)
+    × (items lenient (ahead (0xc1 ∷ 0xff ∷ [])) ≡ fail InvalidUtf8 5)
+    -- at the first byte that stops the text, not at that which led it, also where the header is long
+    × (items lenient (ahead (0x85 ∷ 0x64 ∷ 0xe0 ∷ 0x80 ∷ 0x41 ∷ 0x64 ∷ [])) ≡ fail InvalidUtf8 8)
+    × (items lenient (0x82 ∷ 0xe0 ∷ 0x41 ∷ []) ≡ fail InvalidUtf8 2)
+    × (items lenient (0x99 ∷ 0x00 ∷ 0x02 ∷ 0x64 ∷ 0xff ∷ []) ≡ fail InvalidUtf8 4)
+    -- after the content where that ends too early, whatever comes next
+    × (items lenient (0x00 ∷ 0x82 ∷ 0x61 ∷ 0xc3 ∷ 0x00 ∷ []) ≡ fail InvalidUtf8 4)
+    × (items strict (0x82 ∷ 0xe0 ∷ 0x80 ∷ 0x80 ∷ []) ≡ fail InvalidUtf8 3)
     × (items lenient (ahead (0x06 ∷ 0xff ∷ [])) ≡ good (integer 24 ∷ integer 24 ∷ held Kind.bytes (0xff ∷ []) ∷ []))
     -- 4: one entry is made, and it is the entry 0
     × (items lenient (ahead (0xa1 ∷ 0x64 ∷ 0xe1 ∷ [])) ≡ fail UndefinedReference 6)
@@ -205,13 +212,13 @@ Orders =
     -- cut content, of which no byte is left, as of an empty name in the table: 2 before 11
     × (items strict (0xa0 ∷ 0xa1 ∷ []) ≡ fail Truncated 1)
     -- a 257th entry that is not UTF-8: 3 before 8
-    × (run lenient all-entries 0 (0xa1 ∷ 0xff ∷ []) ≡ fail InvalidUtf8 300)
+    × (run lenient all-entries 0 (0xa1 ∷ 0xff ∷ []) ≡ fail InvalidUtf8 301)
     -- a 257th entry for a name in the table: 11 before 8
     × (run strict all-entries 0 (0xa1 ∷ 0x00 ∷ []) ≡ fail NotCanonical 300)
     -- no row for a 257th entry: 8 before 7
     × (run (options Lenient 7) all-entries 0 (0xa0 ∷ []) ≡ fail TooManyEntries 300)
     -- no row for a string that is not UTF-8: 3 before 7
-    × (items (options Lenient 0) (0x81 ∷ 0xff ∷ []) ≡ fail InvalidUtf8 0)
+    × (items (options Lenient 0) (0x81 ∷ 0xff ∷ []) ≡ fail InvalidUtf8 1)
     × (items (options Lenient 0) (0x81 ∷ 0x64 ∷ []) ≡ fail TooManyRows 0)
     -- no row for a name in full again: 11 before 7
     × (items (options Strict 1) (0xa1 ∷ 0x64 ∷ 0xa1 ∷ 0x64 ∷ []) ≡ fail NotCanonical 2)
@@ -221,12 +228,12 @@ ReadingExamples = Messages × Kinds × Refusals × Orders
 
 pub reading-examples : ReadingExamples
 unfolding pick rule first fail unless then bigEndian digits shift following payloadOf headerOf widthFrom width header
-    isLong isNegativeAlias within leads goodAfter utf8 isText isName isKey isContainer same sameName indexFrom index
+    isLong isNegativeAlias within leads stopAfter stop isNone utf8 orZero badAt isText isName isKey isContainer same sameName indexFrom index
     isSome added noted top ended moved due itemsOf start formOf isContent itemOf isMissing orNull itemRules after headed
     item ending run reading items countsOf counts rowOf rows full named encoded canonicalFrom canonical fitted canonicalizing
 reading-examples = (
   (refl, refl, refl, refl, refl, refl, refl, refl, refl, refl, refl, refl, refl, refl, refl, refl),
   (refl, refl, refl, refl, refl, refl, refl, refl, refl, refl, refl, refl),
-  (refl, refl, refl, refl, refl, refl, refl, refl, refl, refl, refl, refl, refl, refl, refl, refl, refl, refl, refl, refl, refl, refl, refl, refl, refl, refl, refl, refl, refl, refl, refl),
+  (refl, refl, refl, refl, refl, refl, refl, refl, refl, refl, refl, refl, refl, refl, refl, refl, refl, refl, refl, refl, refl, refl, refl, refl, refl, refl, refl, refl, refl, refl, refl, refl, refl, refl, refl, refl),
   (refl, refl, refl, refl, refl, refl, refl, refl, refl, refl, refl, refl, refl, refl, refl, refl, refl),
 )

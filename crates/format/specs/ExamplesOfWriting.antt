@@ -6,10 +6,10 @@ use lib.ListN.{replicate}
 use Rattle.format.specs.declared.row.Row.{Row}
 use Rattle.format.specs.declared.error.Error.the-variants.{InvalidRow, InvalidUtf8, OutputTooLong, TooDeep, TooLong, TooManyEntries, TooManyRows, Truncated, UnexpectedKey}
 use Rattle.format.specs.Choice.{pick}
-use Rattle.format.specs.Answer.{counted, fail, first, good, rule, then, unless}
+use Rattle.format.specs.Answer.{Answer, counted, fail, failed, failureBeside, first, good, rule, then, unless}
 use Rattle.format.specs.Kind as Kind
 use Rattle.format.specs.Header.{digits, following, header, shift, width, widthFrom}
-use Rattle.format.specs.Utf8.{goodAfter, leads, utf8, within}
+use Rattle.format.specs.Utf8.{badAt, isNone, leads, orZero, stop, stopAfter, utf8, within}
 use Rattle.format.specs.Item.{hasContent, isContainer, isKey, isName, isText}
 use Rattle.format.specs.Names.{added, index, indexFrom, isSome, noted, same, sameName}
 use Rattle.format.specs.Place.{due, ended, moved, top}
@@ -36,6 +36,10 @@ key start = row Kind.key 1 start
 
 abbrev symbol : ℕ → Row
 symbol start = row Kind.symbol 1 start
+
+-- 3, at an offset in the text, and the row beside
+abbrev bad-text : {A : Type 0} → ℕ → ℕ → Answer A
+bad-text offset row = failed (failureBeside InvalidUtf8 offset row)
 
 -- rows after six others
 abbrev ahead : List Row → List Row
@@ -107,10 +111,13 @@ Refusals =
     × (writing (ahead (replicate 33 (container 1))) text 9 ≡ fail TooDeep 38)
     × (writing (ahead (replicate 32 (container 1) ++ (container 0 ∷ []))) text 99 ≡ fail TooDeep 38)
     × (writing (replicate 32 (container 1) ++ (null ∷ [])) text 33 ≡ good (replicate 32 0x61 ++ (0x00 ∷ [])))
-    -- 3: a string, a symbol, a key
-    × (writing (ahead (row Kind.string 2 1 ∷ [])) text 9 ≡ fail InvalidUtf8 6)
-    × (writing (ahead (symbol 2 ∷ [])) text 9 ≡ fail InvalidUtf8 6)
-    × (writing (ahead (key 2 ∷ [])) text 9 ≡ fail InvalidUtf8 6)
+    -- 3: a string, a symbol, a key, at the offset in the text, with the row beside
+    × (writing (ahead (row Kind.string 2 1 ∷ [])) text 9 ≡ bad-text 2 6)
+    × (writing (ahead (symbol 2 ∷ [])) text 9 ≡ bad-text 2 6)
+    × (writing (ahead (key 2 ∷ [])) text 9 ≡ bad-text 2 6)
+    × (writing (null ∷ row Kind.string 2 0 ∷ []) (0x64 ∷ 0xff ∷ []) 9 ≡ bad-text 1 1)
+    -- after the content where that ends too early, whatever the text has there
+    × (writing (ahead (row Kind.string 2 1 ∷ [])) (0x64 ∷ 0xe0 ∷ 0x80 ∷ 0x80 ∷ []) 9 ≡ bad-text 3 6)
     -- 8: a 257th name; a name that was used is none
     × (writing (null ∷ names-at (upward 0 128) ++ (row Kind.symbol 0 0 ∷ [])) (upward 0 128) 999 ≡ fail TooManyEntries 257)
     × (judge text all-names (row Kind.symbol 0 0 ∷ []) ≡ fail TooManyEntries 7)
@@ -140,10 +147,10 @@ Orders =
     -- a key that is not UTF-8 after a key: 5 before 3
     × (writing (ahead (key 0 ∷ key 2 ∷ [])) text 9 ≡ fail UnexpectedKey 7)
     -- a 257th name that is not UTF-8: 3 before 8
-    × (judge text all-names (symbol 2 ∷ []) ≡ fail InvalidUtf8 7)
+    × (judge text all-names (symbol 2 ∷ []) ≡ bad-text 2 7)
     -- the first row that is refused, whatever comes after it
     × (writing (ahead (key 0 ∷ key 1 ∷ row 12 0 0 ∷ [])) text 9 ≡ fail UnexpectedKey 7)
-    × (writing (ahead (container 2 ∷ symbol 2 ∷ [])) text 9 ≡ fail InvalidUtf8 7)
+    × (writing (ahead (container 2 ∷ symbol 2 ∷ [])) text 9 ≡ bad-text 2 7)
     -- rows that end early, and no capacity: 2 before 10
     × (writing (ahead (container 1 ∷ [])) text 0 ≡ fail Truncated 7)
 
@@ -151,11 +158,11 @@ abbrev pub WritingExamples : Type 0
 WritingExamples = Results × Refusals × Orders
 
 pub writing-examples : WritingExamples
-unfolding pick rule first fail unless then counted digits shift following widthFrom width header within leads goodAfter
-    utf8 hasContent isText isName isKey isContainer same sameName indexFrom index isSome added noted top ended moved due
+unfolding pick rule first fail unless then counted digits shift following widthFrom width header within leads
+    stopAfter stop isNone utf8 orZero badAt hasContent isText isName isKey isContainer same sameName indexFrom index isSome added noted top ended moved due
     full named encoded canonicalFrom canonical fitted contentOf itemAt isBad begin withItem rowRules judge writing
 writing-examples = (
   (refl, refl, refl, refl, refl, refl, refl, refl, refl, refl, refl),
-  (refl, refl, refl, refl, refl, refl, refl, refl, refl, refl, refl, refl, refl, refl, refl, refl, refl, refl, refl, refl, refl, refl, refl, refl, refl, refl, refl, refl, refl, refl, refl, refl, refl, refl, refl, refl, refl, refl),
+  (refl, refl, refl, refl, refl, refl, refl, refl, refl, refl, refl, refl, refl, refl, refl, refl, refl, refl, refl, refl, refl, refl, refl, refl, refl, refl, refl, refl, refl, refl, refl, refl, refl, refl, refl, refl, refl, refl, refl, refl),
   (refl, refl, refl, refl, refl, refl, refl, refl, refl),
 )

@@ -14,7 +14,7 @@ use Rattle.format.specs.declared.error.Error.the-variants.{InvalidUtf8, NotCano
 use Rattle.format.specs.Choice.{pick}
 use Rattle.format.specs.Limits.{max-entries}
 use Rattle.format.specs.Answer.{fail}
-use Rattle.format.specs.Utf8.{utf8}
+use Rattle.format.specs.Utf8.{badAt, utf8}
 use Rattle.format.specs.Item.{isKey, isName, isText}
 use Rattle.format.specs.Names.{index, isSome}
 use Rattle.format.specs.Place.{Place, keyAfterKey, tooDeep, moved}
@@ -25,7 +25,7 @@ use Rattle.symbols.specs.Entries.{entriesOf, partOf}
 use Rattle.symbols.proofs.Entries.{length-entries}
 use Rattle.items.specs.declared.item.Out.{Out}
 use Rattle.items.specs.declared.item.Out.the-variants as out
-use Rattle.items.specs.Judging.{Fair, Stands, Moves, Goes, Judged, Case, Body, Name, isKnown, freshOf, Entered, known, full, entered, rowed}
+use Rattle.items.specs.Judging.{Fair, Stands, Moves, Goes, Judged, Case, Body, Name, isKnown, badTextIn, freshOf, Entered, known, full, entered, rowed}
 use Rattle.items.proofs.Ladder.{later, to-later, not-key, is-key, not-container, not-name, is-name}
 use Rattle.items.proofs.Flat.{ended-keyed, moved-key, moved-value}
 
@@ -45,6 +45,10 @@ body-string h e = record {
 
 pub name-of : (h : Header) → 5 ≤ h .code → h .code ≤ 6 → Name h
 name-of h l u = record { form = form-text h (omega arith) u; high = l; last = u }
+
+-- The end of a part less its start.
+pub part-size : (next p : ℕ) → next + p - next ≡ p
+part-size next p = omega arith
 
 -- ---- the rules for content of kind k from next on
 
@@ -85,9 +89,11 @@ module _ {s es : List ℕ} {at names keyed next : ℕ} {h : Header} {o : Options
       uncut = let g : h .payload ≤ length (drop next s) = omega (arith, length-drop next s) in ltb-no g
 
       pub content-text : isText (x .item) && not (utf8 (x .item .content)) ≡ true
-          → headed o a (some h) (drop at s) ≡ fail InvalidUtf8 (a .at)
+          → Judged o s es names a (headed o a (some h) (drop at s)) (badTextIn s next (next + p))
       unfolding isContent
-      content-text e = at-later ∙ pick-no _ _ not-again ∙ pick-no _ _ not-box ∙ pick-no _ _ uncut ∙ pick-yes _ _ e
+      content-text e =
+          let n : a .at + h .size ≡ next = omega (arith, cs .stands .offset, cs .size) in
+          at-later ∙ pick-no _ _ not-again ∙ pick-no _ _ not-box ∙ pick-no _ _ uncut ∙ pick-yes _ _ e ∙ rw (n, part-size next p)
 
       module _ (text : isText (x .item) && not (utf8 (x .item .content)) ≡ false) where
         at-rest : headed o a (some h) (drop at s)
@@ -172,10 +178,6 @@ module _ {s es : List ℕ} {at names keyed next : ℕ} {h : Header} {o : Options
                 (and-no-left _ (not-container (x .item) plain))) (ended-keyed _ _)))
 
 -- ---- what the code compared
-
--- The end of a part less its start.
-part-size : (next p : ℕ) → next + p - next ≡ p
-part-size next p = omega arith
 
 module _ (s : List ℕ) (next p : ℕ) where
   pub body-key : (keyed : ℕ) {h : Header} (b : Body h) → eqb keyed 1 && isKey (partOf s (b .kind) next p .item) ≡ false

@@ -14,7 +14,7 @@ use Rattle.format.specs.Limits.{max-entries}
 use Rattle.format.specs.declared.failure.Failure.{Failure}
 use Rattle.format.specs.Answer.{Rule, rule, first, Answer, failed, good, fail, unless}
 use Rattle.format.specs.Header.{isLong, isNegativeAlias, headerOf}
-use Rattle.format.specs.Utf8.{utf8}
+use Rattle.format.specs.Utf8.{badAt, utf8}
 use Rattle.format.specs.Item.{Item, isKey, isContainer, isName, isText}
 use Rattle.format.specs.Names.{index, isSome}
 use Rattle.format.specs.Place.{keyAfterKey, tooDeep}
@@ -43,7 +43,7 @@ later o s h f bs x b =
     pick (keyAfterKey (s .place) x) (fail UnexpectedKey (s .at))
     (pick (tooDeep (s .place) x) (fail TooDeep (s .at))
     (pick (isContent f && ltb (length bs) (h .payload)) (fail Truncated (s .at))
-    (pick (isContent f && isText x && not (utf8 (x .content))) (fail InvalidUtf8 (s .at))
+    (pick (isContent f && isText x && not (utf8 (x .content))) (fail InvalidUtf8 (s .at + h .size + badAt (x .content)))
     (pick (o .strict && (isContent f && isName x) && isSome (index x (itemsOf (s .entries)))) (fail NotCanonical (s .at))
     (pick (isContent f && isName x && leb max-entries (length (s .entries))) (fail TooManyEntries (s .at))
     (rowed o s b))))))

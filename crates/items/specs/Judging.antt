@@ -5,15 +5,16 @@ use mathlib.Core.Bool.{Bool, true, false, _&&_, _||_}
 use mathlib.Core.List.{List, [], _∷_, _++_}
 use Prim.Native.Nat.{ℕ, _+_, _-_, _≤_, _<_, min}
 use lib.Dec.{leb, eqb}
-use lib.ListN.{length}
+use lib.ListN.{length, take, drop}
 use Rattle.format.specs.declared.header.Header.{Header}
-use Rattle.format.specs.declared.error.Error.the-variants.{NotCanonical, TooManyEntries, TooManyRows}
+use Rattle.format.specs.declared.error.Error.the-variants.{InvalidUtf8, NotCanonical, TooManyEntries, TooManyRows}
 use Rattle.format.specs.Choice.{pick}
 use Rattle.format.specs.Limits.{max-rows, max-entries}
 use Rattle.format.specs.Kind as Kind
 use Rattle.format.specs.Code as Code
 use Rattle.format.specs.Answer.{Answer, good, fail}
 use Rattle.format.specs.Header.{isLong, isNegativeAlias}
+use Rattle.format.specs.Utf8.{badAt}
 use Rattle.format.specs.Names.{index, isSome}
 use Rattle.format.specs.Place.{Place, ended}
 use Rattle.format.specs.Reading.{Options, State, Found, itemsOf, content, formOf}
@@ -47,6 +48,7 @@ pub record Moved (strict : Bool) (s es links : List ℕ) (at next names : ℕ) :
 -- What the code needs of an answer.
 abbrev pub Moves : Bool → List ℕ → List ℕ → List ℕ → ℕ → ℕ → ℕ → Out → Type 0
 Moves strict s es links at names depth (out.Bad e) = Unit
+Moves strict s es links at names depth (out.BadText i) = Unit
 Moves strict s es links at names depth (out.Value u) = Moved strict s es links at u names
 Moves strict s es links at names depth (out.Key u) = Moved strict s es links at u names
 Moves strict s es links at names depth (out.NewSymbol u) = Moved strict s es links at u (names + 1)
@@ -70,6 +72,7 @@ pub record Goes (o : Options) (s es : List ℕ) (at names keyed : ℕ) (p : Plac
 
 abbrev pub Judged : Options → List ℕ → List ℕ → ℕ → State → Answer State → Out → Type 0
 Judged o s es names a r (out.Bad e) = r ≡ fail e (a .at)
+Judged o s es names a r (out.BadText i) = r ≡ fail InvalidUtf8 i
 Judged o s es names a r (out.Value u) = Goes o s es u names 0 (ended (a .place .opened) (a .place .fields)) a r
 Judged o s es names a r (out.Key u) = Goes o s es u names 1 (spot (a .place .opened) true (a .place .fields)) a r
 Judged o s es names a r (out.NewSymbol u) = Goes o s es u (names + 1) 0 (ended (a .place .opened) (a .place .fields)) a r
@@ -97,6 +100,10 @@ pub record Name (h : Header) : Type 0 where
   pub form : formOf h ≡ content (h .code + Kind.bytes)
   pub high : Code.symbol ≤ h .code
   pub last : h .code ≤ Code.key
+
+-- The text from one offset to another, which is not UTF-8.
+abbrev pub badTextIn : List ℕ → ℕ → ℕ → Out
+badTextIn s next e = out.BadText (next + badAt (take (e - next) (drop next s)))
 
 -- ---- a name in full
 

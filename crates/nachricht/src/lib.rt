@@ -17,12 +17,13 @@ use format::Row;
 use format::Written;
 use reader::Checked;
 
-// An answer: the error's number or 0, its place and side, and the counts.
+// An answer: the error's number or 0, its place, side and the row beside it, and the counts.
 #[repr(C)]
 pub struct Answer {
     pub error: u64,
     pub place: u64,
     pub side: u64,
+    pub row: u64,
     pub count: u64,
     pub entries: u64,
     pub fields: u64,
@@ -45,6 +46,7 @@ fn failed(f: Failure) -> Answer
         error: error.code() as u64,
         place: f.place as u64,
         side: f.side as u64,
+        row: f.row as u64,
         count: 0,
         entries: 0,
         fields: 0,
@@ -60,6 +62,7 @@ fn answer_of(r: Checked) -> Answer
             error: 0,
             place: 0,
             side: 0,
+            row: 0,
             count: b.rows as u64,
             entries: b.entries as u64,
             fields: b.fields as u64,
@@ -75,6 +78,7 @@ fn done(n: usize) -> Answer
         error: 0,
         place: 0,
         side: 0,
+        row: 0,
         count: n as u64,
         entries: 0,
         fields: 0,

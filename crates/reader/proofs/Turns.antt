@@ -8,7 +8,7 @@ use native.Mathlib.Omega.{arith}
 use lib.Dec.{eqb}
 use lib.ListN.{length, drop}
 use Rattle.format.specs.declared.error.Error.{Error}
-use Rattle.format.specs.declared.error.Error.the-variants.{TooManyRows, Truncated}
+use Rattle.format.specs.declared.error.Error.the-variants.{InvalidUtf8, TooManyRows, Truncated}
 use Rattle.format.specs.declared.header.FieldCount.{FieldCount}
 use Rattle.format.specs.Limits.{max-rows, max-depth}
 use Rattle.format.specs.declared.failure.Failure.{Failure}
@@ -98,14 +98,19 @@ module _ {o : Options} {s es : List ℕ} {t : Cursor} {p : Place} {a : State} (l
       (sym (lead .place)) deep in
       subst (λ (x : ℕ). Judged o s es′ (t .names) from (item o from (drop x s)) r) (sym (lead .stands .offset)) (one from (lead .stands) e)
 
-  stops : {f : Failure} (k : Error) → f ≡ failure k (t .at) → this ≡ fail k (from .at) → run o a 0 (drop (a .at) s) ≡ failed f
+  stops-at : {f : Failure} (k : Error) (p : ℕ) → f ≡ failure k p → this ≡ fail k p → run o a 0 (drop (a .at) s) ≡ failed f
   unfolding fail
-  stops k g j =
-      lead .is ∙ run-failed o from s (omega (arith, lead .stands .offset)) j
-      ∙ ap (λ (p : ℕ). failed (failure k p)) (lead .stands .offset) ∙ ap failed (sym g)
+  stops-at k p g j = lead .is ∙ run-failed o from s (omega (arith, lead .stands .offset)) j ∙ ap failed (sym g)
+
+  stops : {f : Failure} (k : Error) → f ≡ failure k (t .at) → this ≡ fail k (from .at) → run o a 0 (drop (a .at) s) ≡ failed f
+  stops k g j = stops-at k (from .at) (g ∙ ap (failure k) (sym (lead .stands .offset))) j
 
   pub turn-bad : {f : Failure} (k : Error) → f ≡ failure k (t .at) → r ≡ out.Bad k → run o a 0 (drop (a .at) s) ≡ failed f
   turn-bad k g e = stops k g (subst (Judged o s es′ (t .names) from this) e judged)
+
+  -- a text that is not UTF-8
+  pub turn-bad-text : {f : Failure} (i : ℕ) → f ≡ failure InvalidUtf8 i → r ≡ out.BadText i → run o a 0 (drop (a .at) s) ≡ failed f
+  turn-bad-text i g e = stops-at InvalidUtf8 i g (subst (Judged o s es′ (t .names) from this) e judged)
 
   -- an item that is no error, and no row for it
   pub turn-full : {f : Failure} → f ≡ failure TooManyRows (t .at) → (x : Out) → r ≡ x
@@ -178,6 +183,9 @@ module _ {o : Options} {s es : List ℕ} {t : Cursor} {a : State} (Q : ℕ → B
 
   pub field-bad : {f : Failure} (k : Error) → f ≡ failure k (t .at) → r ≡ out.Bad k → run o a 0 (drop (a .at) s) ≡ failed f
   field-bad k g e = turn-bad lead here es′ d deep r one k g e
+
+  pub field-bad-text : {f : Failure} (i : ℕ) → f ≡ failure InvalidUtf8 i → r ≡ out.BadText i → run o a 0 (drop (a .at) s) ≡ failed f
+  field-bad-text i g e = turn-bad-text lead here es′ d deep r one i g e
 
   pub field-full : {f : Failure} → f ≡ failure TooManyRows (t .at) → (x : Out) → r ≡ x
       → rowlessOf x ≡ out.Bad TooManyRows → t .rows ≡ 0 → run o a 0 (drop (a .at) s) ≡ failed f

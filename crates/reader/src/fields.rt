@@ -69,6 +69,9 @@ pub fn fields(
             Out::Bad(k) => {
                 return Step::Bad(Failure::new(k, at));
             }
+            Out::BadText(place) => {
+                return Step::Bad(Failure::new(Error::InvalidUtf8, place));
+            }
             Out::Value(u) => {
                 if rows == 0 {
                     return Step::Bad(Failure::new(Error::TooManyRows, at));

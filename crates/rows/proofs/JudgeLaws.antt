@@ -11,12 +11,13 @@ use lib.Dec.{eqb, ltb, leb}
 use lib.ListN.{length, set, length-append, length-map}
 use Rattle.format.specs.declared.row.Row.{Row}
 use Rattle.format.specs.declared.error.Error.{Error}
+use Rattle.format.specs.declared.failure.Failure.{Failure}
 use Rattle.format.specs.declared.error.Error.the-variants.{InvalidRow, InvalidUtf8, TooDeep, TooManyEntries, UnexpectedKey}
 use Rattle.format.specs.Choice.{pick}
 use Rattle.format.specs.Error.{codeOf}
 use Rattle.format.specs.Kind as Kind
-use Rattle.format.specs.Answer.{failure, rule, first, fail, unless, then}
-use Rattle.format.specs.Utf8.{utf8}
+use Rattle.format.specs.Answer.{failed, failure, failureBeside, rule, first, unless, then}
+use Rattle.format.specs.Utf8.{badAt, utf8}
 use Rattle.format.specs.Item.{Item, isText, isName, isKey, isContainer}
 use Rattle.format.specs.Canonical.{full}
 use Rattle.format.specs.Names.{noted}
@@ -33,7 +34,7 @@ use Rattle.rows.specs.declared.state.State.{State}
 use Rattle.rows.specs.Stack.{bottom, Stands}
 use Rattle.rows.specs.Steps.{refused, valued, keyedBy, namedBy, openedBy}
 use Rattle.encoder.specs.Plan.{Measured}
-use Rattle.rows.specs.Judging.{After, Next, Ready, RowError, invalid-row, invalid-utf8, too-deep, too-many-entries, unexpected-key}
+use Rattle.rows.specs.Judging.{After, Next, PlainError, Ready, RowError, rowBeside, invalid-row, invalid-utf8, plain, too-deep, too-many-entries, unexpected-key}
 use Rattle.rows.proofs.StackLaws.{opened-length, stands-value, stands-key, stands-open}
 use Rattle.encoder.proofs.MeasureLaws.{names-more, measure-plain}
 
@@ -59,7 +60,7 @@ module _ (text : List ℕ) (p : Progress) (r : Row) where
 
       module _ (flat : tooDeep (p .place) (itemAt text r) ≡ false) where
         pub rule-3 : isText (itemAt text r) && not (utf8 (itemAt text r .content)) ≡ true
-            → first (rowRules text p r) ≡ some (failure InvalidUtf8 (p .row))
+            → first (rowRules text p r) ≡ some (failureBeside InvalidUtf8 (r .start + badAt (itemAt text r .content)) (p .row))
         unfolding rowRules first rule pick
         rule-3 h = rw (fine, keys, flat, h)
 
@@ -77,17 +78,28 @@ module _ (text : List ℕ) (p : Progress) (r : Row) where
 
 -- no error has number 0
 numbered : {e : Error} → RowError e → codeOf e ≡ 0 → ⊥
-numbered invalid-row z = omega arith
-numbered unexpected-key z = omega arith
-numbered too-deep z = omega arith
+numbered (plain invalid-row) z = omega arith
+numbered (plain unexpected-key) z = omega arith
+numbered (plain too-deep) z = omega arith
+numbered (plain too-many-entries) z = omega arith
 numbered invalid-utf8 z = omega arith
-numbered too-many-entries z = omega arith
+
+-- beside an error that is not 3 stands no row
+none-beside : {e : Error} → PlainError e → (row : ℕ) → rowBeside (codeOf e) row ≡ 0
+unfolding rowBeside pick
+none-beside invalid-row row = refl
+none-beside unexpected-key row = refl
+none-beside too-deep row = refl
+none-beside too-many-entries row = refl
+
+row-beside : (row : ℕ) → rowBeside (codeOf InvalidUtf8) row ≡ row
+unfolding rowBeside pick
+row-beside row = refl
 
 module _ (text : List ℕ) (p : Progress) (r : Row) where
-  judged-bad : (e : Error) → first (rowRules text p r) ≡ some (failure e (p .row)) → (rest : List Row)
-      → judge text p (r ∷ rest) ≡ fail e (p .row)
-  unfolding judge then unless fail
-  judged-bad e q rest = rw q
+  judged-bad : (f : Failure) → first (rowRules text p r) ≡ some f → (rest : List Row) → judge text p (r ∷ rest) ≡ failed f
+  unfolding judge then unless
+  judged-bad f q rest = rw q
 
   module _ (e : first (rowRules text p r) ≡ none) where
     judged-good : (rest : List Row) → judge text p (r ∷ rest) ≡ judge text (withItem p (itemAt text r)) rest
@@ -100,10 +112,11 @@ module _ (text : List ℕ) (p : Progress) (r : Row) where
 
 module _ {text es links st plan : List ℕ} {xs : List Row} {s : State} (a : After text es links st plan xs s) (r : Row) where
   -- it is refused, whatever became of the tables
-  pub refuse-next : {es′ links′ st′ plan′ : List ℕ} {e : Error} (k : RowError e) {t : State} → t ≡ refused s (codeOf e)
-      → first (rowRules text (a .progress) r) ≡ some (failure e (a .progress .row)) → Next text es′ links′ st′ plan′ xs r s t
+  refuse-at : {es′ links′ st′ plan′ : List ℕ} {e : Error} (k : RowError e) (place : ℕ) {t : State} → t ≡ refused s (codeOf e) place
+      → first (rowRules text (a .progress) r) ≡ some (failureBeside e place (rowBeside (codeOf e) (s .row)))
+      → Next text es′ links′ st′ plan′ xs r s t
   unfolding refused
-  refuse-next {e = e} k q rules =
+  refuse-at {e = e} k place q rules =
       rw q
       (record {
         taken = λ z. absurd (numbered k z);
@@ -113,11 +126,25 @@ module _ {text es links st plan : List ℕ} {xs : List Row} {s : State} (a : Aft
             error = e;
             of-row = k;
             number = refl;
-            is = a .run (r ∷ rest) ∙ judged-bad text (a .progress) r e rules rest
-                ∙ ap (fail e) (a .row);
+            is = a .run (r ∷ rest) ∙ judged-bad text (a .progress) r _ rules rest;
           },
         );
       })
+
+  -- at its number
+  pub refuse-next : {es′ links′ st′ plan′ : List ℕ} {e : Error} (k : PlainError e) {t : State} → t ≡ refused s (codeOf e) (s .row)
+      → first (rowRules text (a .progress) r) ≡ some (failure e (a .progress .row)) → Next text es′ links′ st′ plan′ xs r s t
+  refuse-next {e = e} k q rules =
+      refuse-at (plain k) (s .row) q
+      (rules ∙ ap (λ (n : ℕ). some (failure e n)) (a .row) ∙ ap (λ (n : ℕ). some (failureBeside e (s .row) n)) (sym (none-beside k (s .row))))
+
+  -- for a text that is not UTF-8, at an offset in the text
+  pub refuse-text-next : {es′ links′ st′ plan′ : List ℕ} (place : ℕ) {t : State} → t ≡ refused s (codeOf InvalidUtf8) place
+      → first (rowRules text (a .progress) r) ≡ some (failureBeside InvalidUtf8 place (a .progress .row))
+      → Next text es′ links′ st′ plan′ xs r s t
+  refuse-text-next place q rules =
+      refuse-at invalid-utf8 place q
+      (rules ∙ ap (λ (n : ℕ). some (failureBeside InvalidUtf8 place n)) (a .row ∙ sym (row-beside (s .row))))
 
   -- it is taken
   pub take-next : {es′ links′ st′ plan′ : List ℕ} (t : State) → first (rowRules text (a .progress) r) ≡ none

@@ -3,12 +3,14 @@ use Prim.Native.Nat.{ℕ, _+_, _*_, _≤_, _<_}
 use mathlib.Core.Path.{_≡_}
 use mathlib.Core.Bool.{false}
 use mathlib.Core.List.{List, [], _∷_, _++_}
+use lib.Dec.{eqb}
 use lib.ListN.{length}
 use Rattle.format.specs.declared.row.Row.{Row}
 use Rattle.format.specs.declared.error.Error.{Error}
 use Rattle.format.specs.declared.error.Error.the-variants.{InvalidRow, InvalidUtf8, TooDeep, TooManyEntries, UnexpectedKey}
 use Rattle.format.specs.Error.{codeOf}
-use Rattle.format.specs.Answer.{Answer, fail}
+use Rattle.format.specs.Choice.{pick}
+use Rattle.format.specs.Answer.{Answer, failed, failureBeside}
 use Rattle.format.specs.Limits.{max-bytes, max-rows, max-depth, max-item}
 use Rattle.format.specs.Names.{namesFrom}
 use Rattle.format.specs.WellFormed.{All}
@@ -19,20 +21,27 @@ use Rattle.rows.specs.Plan.{plan-size}
 use Rattle.rows.specs.Stack.{bottom, Stands}
 use Rattle.encoder.specs.Plan.{Measured}
 
--- The errors that a row by itself can be refused with.
-pub data RowError : Error → Type 0 where
-  invalid-row : RowError InvalidRow
-  unexpected-key : RowError UnexpectedKey
-  too-deep : RowError TooDeep
-  invalid-utf8 : RowError InvalidUtf8
-  too-many-entries : RowError TooManyEntries
+-- The errors that a row by itself can be refused with, at its number or, with that beside, at an offset in the text.
+pub data PlainError : Error → Type 0 where
+  invalid-row : PlainError InvalidRow
+  unexpected-key : PlainError UnexpectedKey
+  too-deep : PlainError TooDeep
+  too-many-entries : PlainError TooManyEntries
 
--- Rows are refused with an error, at the row of a state that has its number.
+pub data RowError : Error → Type 0 where
+  plain : {e : Error} → PlainError e → RowError e
+  invalid-utf8 : RowError InvalidUtf8
+
+-- The row beside an error's place, by the error's number.
+unfoldable pub rowBeside : ℕ → ℕ → ℕ
+rowBeside e row = pick (eqb e (codeOf InvalidUtf8)) row 0
+
+-- Rows are refused with an error, at the place of a state that has its number.
 pub record RefusedAs (judgement : Answer Progress) (s : State) : Type 0 where
   pub error : Error
   pub of-row : RowError error
   pub number : codeOf error ≡ s .error
-  pub is : judgement ≡ fail error (s .row)
+  pub is : judgement ≡ failed (failureBeside error (s .place) (rowBeside (s .error) (s .row)))
 
 -- The rows xs were taken, and s is the state after them.
 pub record After (text es links st plan : List ℕ) (xs : List Row) (s : State) : Type 0 where

@@ -7,8 +7,9 @@ use Rattle.format.specs.Kind as Kind
 use Rattle.rows.specs.declared.state.State.{State}
 use Rattle.rows.specs.Stack.{closed}
 
-unfoldable pub refused : State → ℕ → State
-refused s e = record {
+-- after an error at a place
+unfoldable pub refused : State → ℕ → ℕ → State
+refused s e place = record {
   row = s .row;
   end = s .row;
   depth = s .depth;
@@ -16,6 +17,7 @@ refused s e = record {
   keyed = s .keyed;
   names = s .names;
   size = s .size;
+  place = place;
   error = e;
 }
 
@@ -23,7 +25,7 @@ refused s e = record {
 unfoldable pub valued : List ℕ → State → ℕ → ℕ → State
 valued st s names n =
     let to = closed st (s .depth) (s .left) in
-    record { row = s .row + 1; end = s .end; depth = to .depth; left = to .left; keyed = 0; names = names; size = s .size + n; error = 0 }
+    record { row = s .row + 1; end = s .end; depth = to .depth; left = to .left; keyed = 0; names = names; size = s .size + n; place = 0; error = 0 }
 
 -- after a key of n bytes
 unfoldable pub keyedBy : State → ℕ → ℕ → State
@@ -35,6 +37,7 @@ keyedBy s names n = record {
   keyed = 1;
   names = names;
   size = s .size + n;
+  place = 0;
   error = 0;
 }
 
@@ -52,5 +55,6 @@ openedBy s fields n = record {
   keyed = 0;
   names = s .names;
   size = s .size + n;
+  place = 0;
   error = 0;
 }

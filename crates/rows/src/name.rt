@@ -21,6 +21,7 @@ use crate::item::outside;
 use crate::place::named;
 use crate::state::State;
 use crate::state::refuse;
+use crate::state::refuse_text;
 use encoder::putting::Reference;
 use format::Bundle;
 use format::Error;
@@ -144,7 +145,7 @@ fn looked_up(
 {
     let part = content(text, row);
     if !is_utf8(part) {
-        return refuse(s, Error::InvalidUtf8);
+        return refuse_text(s, row.start, part);
     }
     let kind = row.kind;
     let key = key_of(kind, part);

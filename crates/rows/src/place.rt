@@ -47,6 +47,7 @@ pub fn value(stack: &[u64; Bundle::MAX_DEPTH], s: State, names: usize, n: usize)
         keyed: 0,
         names,
         size: s.size + n,
+        place: 0,
         error: 0,
     }
 }
@@ -66,6 +67,7 @@ pub fn named(stack: &[u64; Bundle::MAX_DEPTH], s: State, kind: u8, names: usize,
             keyed: 1,
             names,
             size: s.size + n,
+            place: 0,
             error: 0,
         };
     }
@@ -88,6 +90,7 @@ pub fn descend(stack: &mut [u64; Bundle::MAX_DEPTH], s: State, fields: u64, n: u
         keyed: 0,
         names: s.names,
         size: s.size + n,
+        place: 0,
         error: 0,
     }
 }

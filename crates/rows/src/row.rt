@@ -21,6 +21,7 @@ use crate::place::descend;
 use crate::place::value;
 use crate::state::State;
 use crate::state::refuse;
+use crate::state::refuse_text;
 use format::Bundle;
 use format::Error;
 use format::Header;
@@ -43,8 +44,9 @@ fn content_row(text: &[u8], stack: &[u64; Bundle::MAX_DEPTH], s: State, row: Row
         return refuse(s, Error::InvalidRow);
     }
     let kind = row.kind;
-    if bad_text(kind == Row::STRING, content(text, row)) {
-        return refuse(s, Error::InvalidUtf8);
+    let part = content(text, row);
+    if bad_text(kind == Row::STRING, part) {
+        return refuse_text(s, row.start, part);
     }
     let n = header_len(code_of(kind), number) + number as usize;
     value(stack, s, s.names, n)

@@ -1,6 +1,11 @@
 // How far judging has come: small numbers that go by value.
 ghost use mathlib.Core.Path.{_≡_};
+ghost use Prim.Native.Nat.{_+_, _≤_};
+ghost use lib.ListN.{length};
+ghost use Rattle.format.specs.declared.error.Error.the-variants.{InvalidUtf8};
+ghost use Rattle.format.specs.Limits.{max-bytes};
 ghost use Rattle.format.specs.Error.{codeOf};
+ghost use Rattle.format.specs.Utf8.{badAt};
 ghost use Rattle.rows.specs.Steps.{refused};
 use format::Error;
 use format::Row;
@@ -20,6 +25,8 @@ pub struct State {
     pub names: usize,
     // bytes of the canonical encoding
     pub size: usize,
+    // 0, or the place of the error: its row's number, or for a text that is not UTF-8 an offset in the text
+    pub place: usize,
     // 0, or the number of the error. No `Outcome`: with one, tried unproved, writing boards took 1.08 to 1.12 times as
     // long (three runs of the bench).
     pub error: usize,
@@ -30,9 +37,24 @@ impl State {
     pub const TOP: u64 = Row::MAX_COUNT as u64 + 1;
 }
 
-// A row that is refused.
+// A row that is refused, at its number.
 pub fn refuse(s: State, e: Error) -> State
-    ensures { λ r. ⌜ r ≡ refused s (codeOf e) ⌝ }
+    ensures { λ r. ⌜ r ≡ refused s (codeOf e) (s .row) ⌝ }
+{
+    refuse_at(s, e, s.row)
+}
+
+// A row whose text, from start on, is not UTF-8: only now the place is looked for.
+pub fn refuse_text(s: State, start: usize, part: &[u8]) -> State
+    requires { ⌜ start + length (now part) ≤ max-bytes ⌝ }
+    ensures { λ r. ⌜ r ≡ refused s (codeOf InvalidUtf8) (start + badAt (now (part .entry))) ⌝ }
+{
+    let place = start + utf8::bad_at(part);
+    refuse_at(s, Error::InvalidUtf8, place)
+}
+
+fn refuse_at(s: State, e: Error, place: usize) -> State
+    ensures { λ r. ⌜ r ≡ refused s (codeOf e) place ⌝ }
 {
     State {
         row: s.row,
@@ -42,6 +64,7 @@ pub fn refuse(s: State, e: Error) -> State
         keyed: s.keyed,
         names: s.names,
         size: s.size,
+        place,
         error: e.code() as usize,
     }
 }

@@ -1,5 +1,5 @@
 -- Runs of ASCII, byte by byte, and what one says of UTF-8 and of the local rule. Assumes nothing.
-use mathlib.Core.Path.{_≡_, refl}
+use mathlib.Core.Path.{_≡_, refl, _∙_}
 use mathlib.Core.Bool.{Bool, true, false, _&&_}
 use mathlib.Core.List.{List, [], _∷_}
 use Prim.Native.Nat.{ℕ, suc, _+_, _-_, _*_, _≤_, _<_}
@@ -8,7 +8,8 @@ use lib.ListN.{length, getD}
 use lib.Dec.{ltb}
 use borrow.Author.Tests.{ltb-true}
 use Rattle.format.specs.Choice.{pick}
-use Rattle.format.specs.Utf8.{leads, goodAfter, utf8}
+use Rattle.format.specs.Utf8.{isNone, leads, stop, stopAfter, utf8}
+use Rattle.format.proofs.Utf8.{dueAfter, fits, good-step}
 use Rattle.format.proofs.Tests.{clash, leb-yes, leb-no}
 use Rattle.utf8.specs.Local.{due, passes, passesAt, Passing, Ascii}
 use Rattle.utf8.proofs.Ranges.{one-more, joined}
@@ -22,11 +23,16 @@ ascii-leads : (b : ℕ) → b < 0x80 → leads b ≡ 0
 unfolding leads pick
 ascii-leads b h = rw (leb-yes {a = b} {b = 0x7f} (omega arith))
 
+good-from : (i : ℕ) (s : List ℕ) → Ascii s 0 (length s) → isNone (stopAfter 0 i s) ≡ true
+unfolding stopAfter isNone fits dueAfter
+good-from i [] f = refl
+good-from i (b ∷ bs) f =
+    good-step 0 b i bs ∙ rw (ascii-leads b (f 0 (omega arith) (omega arith)))
+    (good-from (i + 1) bs (λ j l u. f (suc j) (omega arith) (omega arith)))
+
 pub ascii-good : (s : List ℕ) → Ascii s 0 (length s) → utf8 s ≡ true
-unfolding utf8 goodAfter
-ascii-good [] f = refl
-ascii-good (b ∷ bs) f =
-    rw (ascii-leads b (f 0 (omega arith) (omega arith))) (ascii-good bs (λ i l u. f (suc i) (omega arith) (omega arith)))
+unfolding utf8 stop
+ascii-good s f = good-from 0 s f
 
 -- The first k bytes and the last k are all.
 pub ends-good : (s : List ℕ) (k : ℕ) → length s ≤ 2 * k → Ascii s 0 (0 + k) → Ascii s (length s - k) (length s - k + k) → utf8 s ≡ true

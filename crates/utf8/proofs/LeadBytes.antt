@@ -1,8 +1,9 @@
 -- What a byte leads, and the bytes of a text one by one, with a count of the continuation bytes that are due. Assumes nothing.
-use mathlib.Core.Path.{_≡_, refl, sym, _∙_}
+use mathlib.Core.Path.{_≡_, refl, sym, ap, _∙_}
 use mathlib.Core.Logic.{⊎-elim, _≢_}
 use mathlib.Core.Bool.{Bool, true, false, _&&_}
 use mathlib.Core.List.{List, _∷_}
+use mathlib.Core.Option.{none, some}
 use Prim.Native.Nat.{ℕ, zero, suc, _+_, _-_, _≤_, _<_}
 use native.Mathlib.Nat.{eq-or-lt-of-le, le-of-suc-le-suc}
 use native.Mathlib.Numerals.{add-one}
@@ -11,8 +12,9 @@ use lib.Dec.{leb, ltb, eqb, lit<, lit≤}
 use lib.ListN.{length, drop, getD, drop-of-length-le}
 use lib.Seq.{drop-cons}
 use Rattle.format.specs.Choice.{pick}
-use Rattle.format.specs.Utf8.{within, leads, goodAfter}
-use Rattle.format.proofs.Tests.{and-true, cases, leb-yes, leb-no, eqb-true, eqb-no, order}
+use Rattle.format.specs.Utf8.{within, leads, stopAfter}
+use Rattle.format.proofs.Tests.{and-no-left, and-no-right, and-true, and-yes, cases, leb-yes, leb-no, eqb-true, order}
+use Rattle.format.proofs.Utf8.{dueAfter, fits, stop-here, stop-on}
 use Rattle.utf8.specs.Local.{due, dueCount, passes}
 
 -- ---- what each byte leads, by a test that is computed at all of them
@@ -87,40 +89,51 @@ module _ (b : ℕ) where
   few : leads b ≢ 4 → ltb (leads b) 4 ≡ true
   few n = cases (passes 0 0 0 b) (λ e. rule-passes e .0) (λ e. absurd (n (rule-fails e)))
 
--- ---- a byte where k continuation bytes are due
+-- ---- the byte at i, where k continuation bytes are due
 
 module _ (s : List ℕ) (i : ℕ) (h : i < length s) where
-  here : (k : ℕ) → goodAfter k (drop i s) ≡ goodAfter k (getD s i 0 ∷ drop (i + 1) s)
-  here k = rw (add-one, drop-cons s i 0 h)
+  abbrev b : ℕ
+  b = getD s i 0
+
+  pub front : drop i s ≡ getD s i 0 ∷ drop (i + 1) s
+  front = rw (add-one, drop-cons s i 0 h)
+
+  here : (k : ℕ) → stopAfter k i (drop i s) ≡ stopAfter k i (b ∷ drop (i + 1) s)
+  here k = ap (stopAfter k i) front
 
   -- none: the byte leads r of them, or nothing
   module _ (k r : ℕ) (z : k ≡ 0) (q : r ≡ leads (getD s i 0)) where
-    pub lead : r ≢ 4 → goodAfter k (drop i s) ≡ goodAfter r (drop (i + 1) s)
-    unfolding goodAfter
-    lead n = rw z (here 0 ∙ rw (few (getD s i 0) (λ e. n (q ∙ e)), q))
+    pub lead : r ≢ 4 → stopAfter k i (drop i s) ≡ stopAfter r (i + 1) (drop (i + 1) s)
+    unfolding fits dueAfter
+    lead n = rw (z, q) (here 0 ∙ stop-on 0 b i _ (few b (λ e. n (q ∙ e))))
 
-    pub no-lead : r ≡ 4 → goodAfter k (drop i s) ≡ false
-    unfolding goodAfter
-    no-lead e = rw z (here 0 ∙ rw (sym q ∙ e))
+    pub no-lead : r ≡ 4 → stopAfter k i (drop i s) ≡ some i
+    unfolding fits
+    no-lead e = rw z (here 0 ∙ stop-here 0 b i _ (rw (sym q ∙ e)))
 
   -- some: it is one of them, or is not
-  pub tail : (k : ℕ) → k ≢ 0 → 0x80 ≤ getD s i 0 → getD s i 0 ≤ 0xbf → goodAfter k (drop i s) ≡ goodAfter (k - 1) (drop (i + 1) s)
-  unfolding goodAfter within
+  pub tail : (k : ℕ) → k ≢ 0 → 0x80 ≤ getD s i 0 → getD s i 0 ≤ 0xbf → stopAfter k i (drop i s) ≡ stopAfter (k - 1) (i + 1) (drop (i + 1) s)
+  unfolding fits dueAfter within
   tail zero n l u = absurd (n refl)
   tail (suc k) n l u =
       let e : suc k - 1 ≡ k = omega arith in
-      here (suc k) ∙ rw (e, leb-yes {a = 0x80} {b = getD s i 0} l, leb-yes {a = getD s i 0} {b = 0xbf} u)
+      here (suc k) ∙ rw e (stop-on (suc k) b i _ (and-yes (leb-yes {a = 0x80} {b = b} l) (leb-yes {a = b} {b = 0xbf} u)))
 
-  pub no-tail : (k : ℕ) → k ≢ 0 → (0x80 ≤ getD s i 0 → 0xbf < getD s i 0) → goodAfter k (drop i s) ≡ false
-  unfolding goodAfter within
+  pub no-tail : (k : ℕ) → k ≢ 0 → (0x80 ≤ getD s i 0 → 0xbf < getD s i 0) → stopAfter k i (drop i s) ≡ some i
+  unfolding fits within
   no-tail zero n f = absurd (n refl)
   no-tail (suc k) n f =
-      here (suc k)
-      ∙ order 0x80 (getD s i 0)
-      (λ l. rw (leb-yes {a = 0x80} {b = getD s i 0} l, leb-no {a = getD s i 0} {b = 0xbf} (f l)))
-      (λ l. rw (leb-no {a = 0x80} {b = getD s i 0} l))
+      here (suc k) ∙ stop-here (suc k) b i _
+      (order 0x80 b (λ l. and-no-right (leb 0x80 b) (leb-no {a = b} {b = 0xbf} (f l))) (λ l. and-no-left _ (leb-no {a = 0x80} {b = b} l)))
 
-pub none-left : (s : List ℕ) (i k : ℕ) → length s ≤ i → goodAfter k (drop i s) ≡ eqb k 0
-unfolding goodAfter
-none-left s i zero h = rw (drop-of-length-le s h)
-none-left s i (suc k) h = rw (drop-of-length-le s h, eqb-no {a = suc k} {b = 0} (omega arith))
+-- ---- no byte is left
+
+module _ (s : List ℕ) (i : ℕ) (h : length s ≤ i) where
+  pub all-done : (k : ℕ) → k ≡ 0 → stopAfter k i (drop i s) ≡ none
+  unfolding stopAfter
+  all-done k z = rw (z, drop-of-length-le s h)
+
+  pub too-early : (k : ℕ) → k ≢ 0 → stopAfter k i (drop i s) ≡ some i
+  unfolding stopAfter
+  too-early zero n = absurd (n refl)
+  too-early (suc k) n = rw (drop-of-length-le s h)

@@ -1,18 +1,17 @@
 -- The local rule decides UTF-8: each byte passes by the three before it, and none is due at the end. Assumes nothing.
-use mathlib.Core.Path.{_≡_, refl, sym, _∙_}
+use mathlib.Core.Path.{_≡_, refl, sym, ap, _∙_}
 use mathlib.Core.Bool.{Bool, true, false, not, _&&_, _||_, and-assoc, and-false, or-false}
 use mathlib.Core.List.{List, [], _∷_}
 use Prim.Native.Nat.{ℕ, zero, suc, _+_, _-_, _≤_, _<_}
-use native.Mathlib.Numerals.{add-one}
 use native.Mathlib.Omega.{arith}
 use lib.Dec.{leb}
 use lib.ListN.{length, drop, getD, drop-of-length-le}
-use lib.Seq.{drop-cons}
 use Rattle.format.specs.Choice.{pick}
-use Rattle.format.specs.Utf8.{within, goodAfter, utf8}
+use Rattle.format.specs.Utf8.{isNone, stop, stopAfter, utf8, within}
 use Rattle.format.proofs.Tests.{and-true, cases, clash, leb-no, leb-true, leb-false, or-false as neither}
-use Rattle.utf8.specs.Local.{due, dueCount, passes, passesAt, Passing, goodFrom, Checked}
-use Rattle.utf8.proofs.LeadBytes.{rule-passes, rule-fails}
+use Rattle.format.proofs.Utf8.{dueAfter, fits, good-step}
+use Rattle.utf8.specs.Local.{due, dueCount, passes, passesAt, Passing, goodAfter, goodFrom, Checked}
+use Rattle.utf8.proofs.LeadBytes.{front, rule-passes, rule-fails}
 use Rattle.utf8.proofs.Ranges.{one-more, joined}
 
 regroup : (a b c d : Bool) → a && (b && (c && d)) ≡ (a && b && c && d)
@@ -28,7 +27,7 @@ one-less true t = refl
 one-less false true = refl
 one-less false false = refl
 
-module _ (p3 p2 p1 b : ℕ) (bs : List ℕ) where
+module _ (p3 p2 p1 b i : ℕ) (bs : List ℕ) where
   count-due : due p3 p2 p1 ≡ true → dueCount p3 p2 p1 ≡ suc (pick (leb 0xf0 p1) 2 (pick (leb 0xe0 p1 || leb 0xf0 p2) 1 0))
   unfolding dueCount
   count-due e = rw e (one-less (leb 0xf0 p1) (leb 0xe0 p1 || leb 0xf0 p2))
@@ -39,10 +38,10 @@ module _ (p3 p2 p1 b : ℕ) (bs : List ℕ) where
       let h : b ≤ 0xbf = leb-true b 0xbf e in
       rw (leb-no {a = 0xf0} {b = b} (omega arith), leb-no {a = 0xe0} {b = b} (omega arith), leb-no {a = 0xc0} {b = b} (omega arith))
 
-  step-due : due p3 p2 p1 ≡ true → goodAfter (dueCount p3 p2 p1) (b ∷ bs) ≡ (passes p3 p2 p1 b && goodAfter (dueCount p2 p1 b) bs)
-  unfolding goodAfter passes within
+  step-due : due p3 p2 p1 ≡ true → goodAfter (dueCount p3 p2 p1) i (b ∷ bs) ≡ (passes p3 p2 p1 b && goodAfter (dueCount p2 p1 b) (i + 1) bs)
+  unfolding fits dueAfter passes within
   step-due e =
-      rw (count-due e, e)
+      good-step (dueCount p3 p2 p1) b i bs ∙ rw (count-due e, e)
       (cases (leb 0x80 b && leb b 0xbf)
       (λ q. let h = and-true (leb 0x80 b) _ q .1 in let l : b ≤ 0xbf = leb-true b 0xbf h in
       rw (q, count-next h, leb-no {a = 0xc0} {b = b} (omega arith), leb-no {a = 0xf5} {b = b} (omega arith)))
@@ -74,29 +73,29 @@ module _ (p3 p2 p1 b : ℕ) (bs : List ℕ) where
     unfolding passes due
     passes-lead = rw e
 
-    step-none : goodAfter (dueCount p3 p2 p1) (b ∷ bs) ≡ (passes p3 p2 p1 b && goodAfter (dueCount p2 p1 b) bs)
-    unfolding goodAfter
+    step-none : goodAfter (dueCount p3 p2 p1) i (b ∷ bs) ≡ (passes p3 p2 p1 b && goodAfter (dueCount p2 p1 b) (i + 1) bs)
+    unfolding fits dueAfter
     step-none =
-        rw (count-none, passes-lead, count-lead)
+        good-step (dueCount p3 p2 p1) b i bs ∙ rw (count-none, passes-lead, count-lead)
         (cases (passes 0 0 0 b) (λ q. let h = rule-passes b q in rw (q, h .0, h .1)) (λ q. rw (q, rule-fails b q)))
 
-  step : goodAfter (dueCount p3 p2 p1) (b ∷ bs) ≡ (passes p3 p2 p1 b && goodAfter (dueCount p2 p1 b) bs)
+  step : goodAfter (dueCount p3 p2 p1) i (b ∷ bs) ≡ (passes p3 p2 p1 b && goodAfter (dueCount p2 p1 b) (i + 1) bs)
   step = cases (due p3 p2 p1) step-due step-none
 
-  end : goodAfter (dueCount p3 p2 p1) [] ≡ not (due p3 p2 p1)
-  unfolding goodAfter
+  end : goodAfter (dueCount p3 p2 p1) i [] ≡ not (due p3 p2 p1)
+  unfolding stopAfter isNone
   end = cases (due p3 p2 p1) (λ e. rw (count-due e, e)) (λ e. rw (count-none e, e))
 
 -- ---- bytes by position
 
 module _ (p3 p2 p1 : ℕ) (s : List ℕ) (i : ℕ) where
   byte : i < length s
-      → goodAfter (dueCount p3 p2 p1) (drop i s) ≡ (passes p3 p2 p1 (getD s i 0)
-      && goodAfter (dueCount p2 p1 (getD s i 0)) (drop (i + 1) s))
-  byte h = rw (add-one, drop-cons s i 0 h) (step p3 p2 p1 (getD s i 0) (drop (suc i) s))
+      → goodAfter (dueCount p3 p2 p1) i (drop i s) ≡ (passes p3 p2 p1 (getD s i 0)
+      && goodAfter (dueCount p2 p1 (getD s i 0)) (i + 1) (drop (i + 1) s))
+  byte h = ap (goodAfter (dueCount p3 p2 p1) i) (front s i h) ∙ step p3 p2 p1 (getD s i 0) i (drop (i + 1) s)
 
-  over : length s ≤ i → goodAfter (dueCount p3 p2 p1) (drop i s) ≡ not (due p3 p2 p1)
-  over h = rw (drop-of-length-le s h) (end p3 p2 p1 0 [])
+  over : length s ≤ i → goodAfter (dueCount p3 p2 p1) i (drop i s) ≡ not (due p3 p2 p1)
+  over h = rw (drop-of-length-le s h) (end p3 p2 p1 0 i [])
 
 -- ---- windows
 
@@ -133,7 +132,7 @@ module _ (s : List ℕ) where
   pub started : 3 ≤ length s
       → utf8 s ≡ (passes 0 0 0 (getD s 0 0) && passes 0 0 (getD s 0 0) (getD s 1 0)
       && passes 0 (getD s 0 0) (getD s 1 0) (getD s 2 0) && goodFrom s 0)
-  unfolding utf8 goodFrom dueCount due pick
+  unfolding utf8 stop goodFrom dueCount due pick
   started h =
       let x = getD s 0 0 in
       let y = getD s 1 0 in

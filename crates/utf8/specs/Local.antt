@@ -6,7 +6,19 @@ use mathlib.Core.List.{List}
 use lib.Dec.{leb}
 use lib.ListN.{getD, drop}
 use Rattle.format.specs.Choice.{pick}
-use Rattle.format.specs.Utf8.{goodAfter}
+use mathlib.Core.Option.{Option, none, some}
+use Rattle.format.specs.Utf8.{isNone, stopAfter}
+use Rattle.utf8.specs.declared.bytewise.Stop.{Stop}
+use Rattle.utf8.specs.declared.bytewise.Stop.the-variants as at
+
+-- The place that an answer says.
+abbrev pub stopOf : Stop → Option ℕ
+stopOf at.Nowhere = none
+stopOf (at.At i) = some i
+
+-- Bytes from an offset on are good where k continuation bytes are due first.
+abbrev pub goodAfter : ℕ → ℕ → List ℕ → Bool
+goodAfter k i bs = isNone (stopAfter k i bs)
 
 -- A window: a byte, and so many before it.
 abbrev pub before : ℕ
@@ -42,7 +54,7 @@ Passing s a e = (i : ℕ) → a ≤ i → i < e → passesAt s i ≡ true
 
 -- What follows the three bytes at i is good after them.
 unfoldable pub goodFrom : List ℕ → ℕ → Bool
-goodFrom s i = goodAfter (dueCount (getD s i 0) (getD s (i + 1) 0) (getD s (i + 2) 0)) (drop (i + 3) s)
+goodFrom s i = goodAfter (dueCount (getD s i 0) (getD s (i + 1) 0) (getD s (i + 2) 0)) (i + 3) (drop (i + 3) s)
 
 -- What the windows from a up to e were found to be: all pass, or what follows a is not good.
 abbrev pub Checked : List ℕ → ℕ → ℕ → Bool → Type 0

@@ -11,11 +11,12 @@ use lib.ListN.{length, take}
 use lib.Seq.{take-length}
 use Rattle.format.specs.declared.row.Row.{Row}
 use Rattle.format.specs.declared.error.Error.{Error}
+use Rattle.format.specs.declared.failure.Failure.{Failure}
 use Rattle.format.specs.declared.error.Error.the-variants.{OutputTooLong, TooLong, TooManyEntries, TooManyRows, Truncated}
 use Rattle.format.specs.Error.{codeOf}
 use Rattle.format.specs.Choice.{pick}
 use Rattle.format.specs.Limits.{max-entries, max-bytes, max-rows}
-use Rattle.format.specs.Answer.{Answer, counted, fail, failed, good, stored, then}
+use Rattle.format.specs.Answer.{Answer, counted, fail, failed, failure, failureBeside, good, stored, then}
 use Rattle.format.specs.Names.{namesFrom}
 use Rattle.format.specs.Place.{due}
 use Rattle.format.specs.Canonical.{canonical, canonicalFrom}
@@ -28,7 +29,7 @@ use Rattle.rows.specs.declared.state.State.{State}
 use Rattle.format.specs.declared.written.Written.{Written}
 use Rattle.encoder.specs.Plan.{Measured}
 use Rattle.writer.specs.Putting.{Putting}
-use Rattle.rows.specs.Judging.{RowError, invalid-row, invalid-utf8, too-deep, too-many-entries, unexpected-key}
+use Rattle.rows.specs.Judging.{RowError, rowBeside, invalid-row, invalid-utf8, plain, too-deep, too-many-entries, unexpected-key}
 use Rattle.writer.specs.Verdict.{Passed, Verdict}
 use Rattle.rows.proofs.StackLaws.{opened-length}
 use Rattle.symbols.proofs.ChainLaws.{length-names}
@@ -63,11 +64,11 @@ judge-asks rs text plan n e long =
 
 -- the last of them, where it is none of the others
 pub last-error : {n : ℕ} → n ≢ 9 → n ≢ 5 → n ≢ 6 → n ≢ 3 → {e : Error} → RowError e → codeOf e ≡ n → TooManyEntries ≡ e
-last-error a b c d invalid-row q = absurd (a (sym q))
-last-error a b c d unexpected-key q = absurd (b (sym q))
-last-error a b c d too-deep q = absurd (c (sym q))
+last-error a b c d (plain invalid-row) q = absurd (a (sym q))
+last-error a b c d (plain unexpected-key) q = absurd (b (sym q))
+last-error a b c d (plain too-deep) q = absurd (c (sym q))
+last-error a b c d (plain too-many-entries) q = refl
 last-error a b c d invalid-utf8 q = absurd (d (sym q))
-last-error a b c d too-many-entries q = refl
 
 -- ---- writing, case by case
 
@@ -104,13 +105,14 @@ module _ (rs : List Row) (text : List ℕ) (capacity : ℕ) where
     unfolding writing
     writing-judged = pick-no _ _ (ltb-no few) ∙ pick-no _ _ (ltb-no short)
 
-    writing-refused : (k : Error) (p : ℕ) → judge text begin rs ≡ fail k p → writing rs text capacity ≡ fail k p
-    unfolding then fail
-    writing-refused k p e = writing-judged ∙ rw e
+    writing-refused : (f : Failure) → judge text begin rs ≡ failed f → writing rs text capacity ≡ failed f
+    unfolding then
+    writing-refused f e = writing-judged ∙ rw e
 
     module _ {plan : List ℕ} {s : State} (g : Passed text plan rs s) where
       writing-due : dueIn s ≡ true → writing rs text capacity ≡ fail Truncated (s .row)
-      writing-due d = writing-refused Truncated (s .row) (passed-ends g ∙ pick-yes _ _ d)
+      unfolding fail
+      writing-due d = writing-refused (failure Truncated (s .row)) (passed-ends g ∙ pick-yes _ _ d)
 
       writing-fitted : dueIn s ≡ false → writing rs text capacity ≡ fitted capacity (canonical (itemsAt text rs))
       unfolding then
@@ -118,10 +120,15 @@ module _ (rs : List Row) (text : List ℕ) (capacity : ℕ) where
 
 -- ---- the answer of `decide`
 
+answers-failed : (rs : List Row) (text : List ℕ) (capacity : ℕ) (f : Failure) → writing rs text capacity ≡ failed f
+    → failed f ≡ counted (writing rs text capacity)
+unfolding counted then
+answers-failed rs text capacity f e = rw e
+
 answers-fail : (rs : List Row) (text : List ℕ) (capacity : ℕ) (k : Error) (p : ℕ) → writing rs text capacity ≡ fail k p
     → fail k p ≡ counted (writing rs text capacity)
-unfolding counted then fail
-answers-fail rs text capacity k p e = rw e
+unfolding fail
+answers-fail rs text capacity k p e = answers-failed rs text capacity (failure k p) e
 
 module _ (rs : List Row) (bs plan : List ℕ) (rows text capacity : ℕ) (s : State) (er : length rs ≡ rows)
     (eb : length bs ≡ text) (v : Verdict bs plan (take (limitOf rows text) rs) s) where
@@ -135,14 +142,13 @@ module _ (rs : List Row) (bs plan : List ℕ) (rows text capacity : ℕ) (s : St
     all-judged : Verdict bs plan rs s
     all-judged = rw (limit-all few short, ← er, take-length rs) at v
 
-    pub answer-refused : (k : Error) → s .error ≢ 0 → ((e : Error) → RowError e → codeOf e ≡ s .error → k ≡ e)
-        → fail k (s .row) ≡ counted (writing rs bs capacity)
-    answer-refused k n h =
-        let f = all-judged .refused n in
-        let e = f .error in
-        rw (h e (f .of-row) (f .number))
-        (answers-fail rs bs capacity e (s .row) (writing-refused rs bs capacity (rw er few) (rw eb short) e (s .row)
-        (f .is)))
+    pub answer-refused : (f : Failure) → s .error ≢ 0
+        → ((e : Error) → RowError e → codeOf e ≡ s .error → f ≡ failureBeside e (s .place) (rowBeside (s .error) (s .row)))
+        → failed f ≡ counted (writing rs bs capacity)
+    answer-refused f n h =
+        let r = all-judged .refused n in
+        rw (h (r .error) (r .of-row) (r .number))
+        (answers-failed rs bs capacity _ (writing-refused rs bs capacity (rw er few) (rw eb short) _ (r .is)))
 
     module _ (fine : s .error ≡ 0) where
       pub answer-due : dueIn s ≡ true → fail Truncated (s .row) ≡ counted (writing rs bs capacity)

@@ -7,11 +7,11 @@ ghost use lib.Dec.{eqb, ltb};
 ghost use lib.ListN.{length, take};
 ghost use Rattle.format.specs.declared.row.Row.{Row};
 ghost use Rattle.format.specs.declared.error.Error.{Error};
-ghost use Rattle.format.specs.Answer.{counted};
+ghost use Rattle.format.specs.Answer.{counted, failureBeside};
 ghost use Rattle.format.specs.Error.{codeOf};
 ghost use Rattle.format.specs.Writing.{writing};
 ghost use Rattle.format.specs.Written.{Writes, answerOf};
-ghost use Rattle.rows.specs.Judging.{RowError};
+ghost use Rattle.rows.specs.Judging.{RowError, rowBeside};
 ghost use Rattle.writer.specs.Verdict.{Verdict};
 ghost use Rattle.writer.specs.Extent.{limitOf, rowsIn};
 use crate::judging::judge;
@@ -19,6 +19,7 @@ use crate::putting::put;
 use encoder::fitting::is_over;
 use format::Bundle;
 use format::Error;
+use format::Failure;
 use format::Row;
 use format::Written;
 use rows::Plan;
@@ -50,6 +51,25 @@ fn error_of(code: usize) -> Error
     }
 }
 
+// The row beside an error's place, which is an offset in the text only where that is not UTF-8.
+fn row_beside(code: usize, row: usize) -> usize
+    ensures { λ r. ⌜ r ≡ rowBeside code row ⌝ }
+{
+    if code == Error::InvalidUtf8.code() as usize {
+        return row;
+    }
+    0
+}
+
+// The failure of the row that is refused.
+fn failure_of(s: State) -> Failure
+    ensures { λ r. ⌜ ((e : Error) → RowError e → codeOf e ≡ s .error
+        → r ≡ failureBeside e (s .place) (rowBeside (s .error) (s .row))) ⌝ }
+{
+    let error = error_of(s.error);
+    Failure::beside(error, s.place, row_beside(s.error, s.row))
+}
+
 // Is an item still due?
 fn is_due(s: State) -> bool
     ensures { λ r. ⌜ r ≡ (eqb (s .keyed) 1 || ltb 0 (s .depth)) ⌝ }
@@ -72,7 +92,7 @@ fn decide(rows: usize, text: usize, capacity: usize, s: State) -> Written
         return Written::fail(Error::TooLong, 0);
     }
     if s.error != 0 {
-        return Written::fail(error_of(s.error), s.row);
+        return Written::Failed(failure_of(s));
     }
     if is_due(s) {
         return Written::fail(Error::Truncated, s.row);

@@ -2,11 +2,15 @@
 use native.Mathlib.Omega.{arith}
 use mathlib.Core.Path.{ap, sym, _∙_}
 use mathlib.Core.Bool.{not}
-use Rattle.format.specs.Utf8.{utf8}
+use mathlib.Core.List.{List}
+use Prim.Native.Nat.{ℕ, _+_}
+use lib.ListN.{length}
+use Rattle.rows.specs.Steps.{refused}
+use Rattle.format.specs.Utf8.{badAt, utf8}
 use Rattle.format.proofs.Tests.{not-false}
-use Rattle.rows.proofs.RowLaws.{kind-most, inside}
-use Rattle.rows.specs.Judging.{invalid-utf8, too-many-entries}
-use Rattle.rows.proofs.JudgeLaws.{refuse-next}
+use Rattle.rows.proofs.RowLaws.{kind-most, content-length, inside}
+use Rattle.rows.specs.Judging.{too-many-entries}
+use Rattle.rows.proofs.JudgeLaws.{refuse-next, refuse-text-next}
 use Rattle.rows.proofs.KindLaws.{name-invalid, fresh-full}
 use Rattle.rows.proofs.NameLaws.{has-content, name-stands, looked-up, among, known-next, fresh-next}
 use borrow.Author.Needs.{needs}
@@ -20,13 +24,19 @@ content-requires c κs = let p = c .before .pre in
 is-utf8-requires : tie.Need-is-utf8-requires
 is-utf8-requires c κs = search needs
 
-refuse-requires : tie.Need-refuse-requires
-refuse-requires c κs = search needs
+refuse-text-requires : tie.Need-refuse-text-requires
+refuse-text-requires c κs =
+    let s = c .before .before .before .before in
+    let p = s .pre in
+    let content = has-content (s .args .text .now) (s .args .row) (p .1 .name) (p .1 .fine) in
+    omega (arith, ap length (c .before .before .content .ensures), content-length (s .args .text .now) (s .args .row) (p .1 .fine) content, inside (s .args .text .now) (s .args .row) (p .1 .fine) content, p .0 .short)
 
 returns : tie.Need-returns
 returns c = λ xs a.
-    let w = c .before .before .before .before .before .pre .1 in
-    refuse-next a (c .before .before .before .before .before .args .row) invalid-utf8 (c .refuse .ensures)
+    let s = c .before .before .before .before .before in
+    let w = s .pre .1 in
+    refuse-text-next a (s .args .row) _
+    (c .refuse-text .ensures ∙ ap (λ (bs : List ℕ). refused (s .args .s) 3 (s .args .row .start + badAt bs)) (c .before .before .before .content .ensures))
     (name-invalid a (c .before .before .before .before .before .args .row) (w .name) (w .fine) (w .alone)
     (ap not (ap utf8 (sym (c .before .before .before .content .ensures))
     ∙ sym (c .before .before .is-utf8 .ensures)) ∙ c .before .if1 .taken))
@@ -68,8 +78,8 @@ fresh-requires c κs = let p = c .before .before .before .before .before .before
 enum-told-2 : tie.Need-enum-told-2
 enum-told-2 c = search needs
 
-refuse-requires-2 : tie.Need-refuse-requires-2
-refuse-requires-2 c κs = search needs
+refuse-requires : tie.Need-refuse-requires
+refuse-requires c κs = search needs
 
 returns-2 : tie.Need-returns-2
 returns-2 c = λ xs a.
@@ -104,7 +114,7 @@ returns-4 c = λ xs a.
     ∙ sym (c .before .before .before .before .before .before .before .before .is-utf8 .ensures)
     ∙ not-false (c .before .before .before .before .before .before .before .if1 .left) in
     let e = looked-up a r w (p .0) (c .before .before .before .before .before .before .before .before .before .content .ensures) (n .0) in
-    refuse-next a r too-many-entries (c .refuse2 .ensures) (fresh-full a r (w .name) (w .fine) (w .alone) (among a r w (p .0) e) u (n .1))
+    refuse-next a r too-many-entries (c .refuse .ensures) (fresh-full a r (w .name) (w .fine) (w .alone) (among a r w (p .0) e) u (n .1))
 
 pub looked-up-spec : {M : Type 1} → statement M
 looked-up-spec =
@@ -112,7 +122,7 @@ looked-up-spec =
     (tie.spec
     content-requires
     is-utf8-requires
-    refuse-requires
+    refuse-text-requires
     returns
     key-of-requires
     note-requires
@@ -122,7 +132,7 @@ looked-up-spec =
     enum-told
     fresh-requires
     enum-told-2
-    refuse-requires-2
+    refuse-requires
     returns-2
     returns-3
     returns-4)

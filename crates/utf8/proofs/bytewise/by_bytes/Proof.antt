@@ -1,90 +1,26 @@
--- `by_bytes` is UTF-8. The invariant: what is left is good after k continuation bytes exactly if the text is. Assumes nothing.
-use mathlib.Core.Path.{_≡_, refl, sym, _∙_}
-use Prim.Native.Nat.{_-_, _≤_}
-use native.Mathlib.Omega.{arith}
-use lib.ListN.{length, drop}
+-- `by_bytes` is UTF-8: there is no place. Assumes nothing.
+use mathlib.Core.Path.{ap}
 use borrow.Author.Needs.{needs}
-use Rattle.format.specs.Utf8.{utf8, goodAfter}
-use Rattle.utf8.proofs.LeadBytes.{lead, no-lead, tail, no-tail, none-left}
+use Rattle.format.specs.Utf8.{isNone, utf8}
 use Rattle.utf8.proofs.bytewise.by_bytes.Statement.{statement}
 use Rattle.utf8.proofs.bytewise.by_bytes.Tie as tie
 
-abbrev Inv-loop : tie.InvT-loop
-Inv-loop s k₀ i₀ k i = (i ≤ length s) × (utf8 s ≡ goodAfter k (drop i s))
+scan-requires : tie.Need-scan-requires
+scan-requires c κs = search needs
 
-abbrev μ-loop : tie.MeasureT-loop
-μ-loop s k₀ i₀ k i = length s - i
+enum-told : tie.Need-enum-told
+enum-told c = search needs
 
-loop-holds : tie.Need-loop-holds Inv-loop μ-loop
-unfolding utf8
-loop-holds c = (search needs, refl)
+returns : tie.Need-returns
+unfolding utf8 isNone
+returns c = ap isNone (rw (c .enum-told .given .1) at (c .before .before .scan .ensures))
 
-shared-slice-read-b : tie.Need-shared-slice-read-b Inv-loop μ-loop
-shared-slice-read-b c = search needs
+enum-told-2 : tie.Need-enum-told-2
+enum-told-2 c = search needs
 
-add-i : tie.Need-add-i Inv-loop μ-loop
-add-i c = search needs
-
-leads-requires : tie.Need-leads-requires Inv-loop μ-loop
-leads-requires c κs = search needs
-
-returns : tie.Need-returns Inv-loop μ-loop
-returns c = sym (c .before .before .before .before .before .loop .inv .1
-    ∙ no-lead _ _ (c .before .before .before .before .loop-test .taken) _ _ (c .before .before .if1 .taken)
-    (c .before .leads .ensures) (c .if2 .taken))
-
-loop-less : tie.Need-loop-less Inv-loop μ-loop
-loop-less c = search needs
-
-loop-again : tie.Need-loop-again Inv-loop μ-loop
-loop-again c = (
-  search needs,
-  c .before .before .before .before .before .loop .inv .1
-      ∙ lead _ _ (c .before .before .before .before .loop-test .taken) _ _ (c .before .before .if1 .taken)
-      (c .before .leads .ensures) (c .if2 .left),
-)
-
-returns-2 : tie.Need-returns-2 Inv-loop μ-loop
-returns-2 c = sym (c .before .before .before .before .loop .inv .1
-    ∙ no-tail _ _ (c .before .before .before .loop-test .taken) _ (c .before .if1 .left) (λ l. absurd (omega arith)))
-
-returns-3 : tie.Need-returns-3 Inv-loop μ-loop
-returns-3 c = sym (c .before .before .before .before .before .loop .inv .1
-    ∙ no-tail _ _ (c .before .before .before .before .loop-test .taken) _ (c .before .before .if1 .left) (λ _. c .if4 .taken))
-
-sub-k : tie.Need-sub-k Inv-loop μ-loop
-sub-k c = search needs
-
-loop-less-2 : tie.Need-loop-less-2 Inv-loop μ-loop
-loop-less-2 c = search needs
-
-loop-again-2 : tie.Need-loop-again-2 Inv-loop μ-loop
-loop-again-2 c = (
-  search needs,
-  c .before .before .before .before .before .loop .inv .1
-      ∙ tail _ _ (c .before .before .before .before .loop-test .taken) _ (c .before .before .if1 .left)
-      (c .before .if3 .left) (c .if4 .left),
-)
-
-returns-4 : tie.Need-returns-4 Inv-loop μ-loop
-returns-4 c = sym (c .before .loop .inv .1 ∙ none-left _ _ _ (c .loop-test .left))
+returns-2 : tie.Need-returns-2
+unfolding utf8 isNone
+returns-2 c = ap isNone (rw (c .enum-told2 .given .1) at (c .before .before .scan .ensures))
 
 pub by-bytes-spec : {M : Type 1} → statement M
-by-bytes-spec =
-    tie.close
-    (tie.spec
-    Inv-loop
-    μ-loop
-    loop-holds
-    shared-slice-read-b
-    add-i
-    leads-requires
-    returns
-    loop-less
-    loop-again
-    returns-2
-    returns-3
-    sub-k
-    loop-less-2
-    loop-again-2
-    returns-4)
+by-bytes-spec = tie.close (tie.spec scan-requires enum-told enum-told-2 returns returns-2)

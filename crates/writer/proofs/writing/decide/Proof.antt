@@ -18,25 +18,21 @@ returns-2 : tie.Need-returns-2
 returns-2 c = λ rs bs plan er eb v. c .fail2 .ensures
     ∙ answer-text rs bs plan _ _ _ _ er eb v (c .before .before .if1 .left) (c .before .if2 .taken)
 
-error-of-requires : tie.Need-error-of-requires
-error-of-requires c κs = search needs
-
-fail-requires-3 : tie.Need-fail-requires-3
-fail-requires-3 c κs = search needs
+failure-of-requires : tie.Need-failure-of-requires
+failure-of-requires c κs = search needs
 
 returns-3 : tie.Need-returns-3
 returns-3 c =
-    let if2′ = c .before .before .before .before .if2 in
-    let if1′ = c .before .before .before .before .before .if1 in
+    let if2′ = c .before .before .before .if2 in
+    let if1′ = c .before .before .before .before .if1 in
     λ rs bs plan er eb v.
-    c .fail3 .ensures ∙ answer-refused rs bs plan _ _ _ _ er eb v (if1′ .left)
-    (if2′ .left) _ (c .before .before .if3 .taken) (c .before .error-of .ensures)
+    answer-refused rs bs plan _ _ _ _ er eb v (if1′ .left) (if2′ .left) _ (c .before .if3 .taken) (c .failure-of .ensures)
 
 is-due-requires : tie.Need-is-due-requires
 is-due-requires c κs = search needs
 
-fail-requires-4 : tie.Need-fail-requires-4
-fail-requires-4 c κs = search needs
+fail-requires-3 : tie.Need-fail-requires-3
+fail-requires-3 c κs = search needs
 
 returns-4 : tie.Need-returns-4
 returns-4 c =
@@ -44,14 +40,14 @@ returns-4 c =
     let back = c .before .before .before .before .before in
     let if1′ = back .before .if1 in
     λ rs bs plan er eb v.
-    c .fail4 .ensures ∙ answer-due rs bs plan _ _ _ _ er eb v (if1′ .left) (if2′ .left)
+    c .fail3 .ensures ∙ answer-due rs bs plan _ _ _ _ er eb v (if1′ .left) (if2′ .left)
     (c .before .before .before .if3 .left) (sym (c .before .before .is-due .ensures) ∙ c .before .if4 .taken)
 
 is-over-requires : tie.Need-is-over-requires
 is-over-requires c κs = search needs
 
-fail-requires-5 : tie.Need-fail-requires-5
-fail-requires-5 c κs = search needs
+fail-requires-4 : tie.Need-fail-requires-4
+fail-requires-4 c κs = search needs
 
 returns-5 : tie.Need-returns-5
 returns-5 c =
@@ -61,7 +57,7 @@ returns-5 c =
     let if2′ = back .before .before .if2 in
     let if1′ = back .before .before .before .if1 in
     λ rs bs plan er eb v.
-    c .fail5 .ensures
+    c .fail4 .ensures
     ∙ answer-over rs bs plan _ _ _ _ er eb v (if1′ .left) (if2′ .left) (if3′ .left) (sym (is-due′ .ensures)
     ∙ c .before .before .before .if4 .left) (sym (c .before .before .is-over .ensures) ∙ c .before .if5 .taken)
 
@@ -84,13 +80,12 @@ decide-spec =
     returns
     fail-requires-2
     returns-2
-    error-of-requires
-    fail-requires-3
+    failure-of-requires
     returns-3
     is-due-requires
-    fail-requires-4
+    fail-requires-3
     returns-4
     is-over-requires
-    fail-requires-5
+    fail-requires-4
     returns-5
     returns-6)
