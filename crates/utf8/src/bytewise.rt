@@ -78,6 +78,6 @@ pub fn bad_at(s: &[u8]) -> usize
 {
     match scan(s) {
         Stop::Nowhere => 0,
-        Stop::At(i) => i,
+        Stop::At(place) => place,
     }
 }

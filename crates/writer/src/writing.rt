@@ -55,10 +55,7 @@ fn error_of(code: usize) -> Error
 fn row_beside(code: usize, row: usize) -> usize
     ensures { λ r. ⌜ r ≡ rowBeside code row ⌝ }
 {
-    if code == Error::InvalidUtf8.code() as usize {
-        return row;
-    }
-    0
+    if code == Error::InvalidUtf8.code() as usize { row } else { 0 }
 }
 
 // The failure of the row that is refused.
