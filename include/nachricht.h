@@ -55,7 +55,8 @@ enum {
 /*
  * The kinds of a row, and what its number is. Kinds 5, 9, 10 and 11 have content, `number` bytes from `start` on.
  * That of 9, 10 and 11 is UTF-8 by this rule: 00-7F alone; C2-DF and one byte 80-BF; E0-EF and two such; F0-F4 and
- * three such. So E0 80 80 and ED A0 80 pass, which other programs may refuse.
+ * three such. So E0 80 80 and ED A0 80 pass, which other programs may refuse. The place of error 3 is the offset of the
+ * first byte that cannot come next by this rule, or the offset just after the content where that ends too early.
  */
 enum {
     NACHRICHT_NULL = 0,      /* number 0 */
@@ -84,6 +85,7 @@ typedef struct nachricht_answer {
     uint64_t error;   /* 0, or the error's number */
     uint64_t place;   /* where the error is; 0 without one */
     uint64_t side;    /* nachricht_join: 1 or 2 for the bundle that does not read, else 0 */
+    uint64_t row;     /* nachricht_write: beside error 3 the number of the row; else 0 */
     uint64_t count;   /* rows read, bytes written, or in nachricht_open the bundle's length; 0 beside an error */
     uint64_t entries; /* nachricht_check, nachricht_read: entries in the symbol table; 0 beside an error */
     uint64_t fields;  /* nachricht_check, nachricht_read: fields at the top level; 0 beside an error */
@@ -96,8 +98,9 @@ typedef struct nachricht_answer {
  * No buffer is written to.
  *
  * Errors: 1 with place 0. Then those of the first bad item, place being the offset of its first byte, or `len` where an
- * item is due and no byte is left. Where several apply to it, the first of: 2 header cut; 11 header too long, or the
- * second encoding of -(2^64 - 1); 4; 5; 6; 2 content cut; 3; 11 name in the table already; 8; 7. 11 only with `strict`.
+ * item is due and no byte is left; for 3 it is said with the kinds. Where several apply to it, the first of: 2 header
+ * cut; 11 header too long, or the second encoding of -(2^64 - 1); 4; 5; 6; 2 content cut; 3; 11 name in the table
+ * already; 8; 7. 11 only with `strict`.
  */
 nachricht_answer nachricht_check(const uint8_t *bytes, size_t len, bool strict);
 
@@ -118,11 +121,11 @@ nachricht_answer nachricht_read(const uint8_t *bytes, size_t len, bool strict, n
  * the bundle they came from as text. A container's row comes before the rows of its fields, a key's before its value.
  *
  * Errors: 7 if rows_len is over NACHRICHT_MAX_ROWS, then 1 if text_len is over NACHRICHT_MAX_BYTES, with place 0. Then
- * those of the first bad row, place being its number from 0 on: 9, 5, 6, 3, 8, in this order. A row is bad by 9 if its
- * kind is none of the above, its number none that the kind has, its start not 0 for a kind without content, or its
- * content not within the text (start + number > text_len, also for number 0). Then 2 with place rows_len if a key's
- * value or a container's fields are missing. Last 10 with place 0 if the result is over NACHRICHT_MAX_BYTES or over
- * out_len.
+ * those of the first bad row, place being its number from 0 on: 9, 5, 6, 3, 8, in this order. For 3 the number is in
+ * `row`, and place is the offset in `text` that is said with the kinds. A row is bad by 9 if its kind is none of the
+ * above, its number none that the kind has, its start not 0 for a kind without content, or its content not within the
+ * text (start + number > text_len, also for number 0). Then 2 with place rows_len if a key's value or a container's
+ * fields are missing. Last 10 with place 0 if the result is over NACHRICHT_MAX_BYTES or over out_len.
  */
 nachricht_answer nachricht_write(const nachricht_row *rows, size_t rows_len, const uint8_t *text, size_t text_len,
                                  uint8_t *out, size_t out_len);

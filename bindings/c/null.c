@@ -14,8 +14,8 @@ static struct memory memory, expected;
 static int calls, failures;
 
 /* The answer of a call that writes so many bytes, or fails with this error at place 0. */
-static nachricht_answer count(uint64_t bytes) { return (nachricht_answer){0, 0, 0, bytes, 0, 0}; }
-static nachricht_answer error(uint64_t number) { return (nachricht_answer){number, 0, 0, 0, 0, 0}; }
+static nachricht_answer count(uint64_t bytes) { return (nachricht_answer){.count = bytes}; }
+static nachricht_answer error(uint64_t number) { return (nachricht_answer){.error = number}; }
 
 /* Both structs are filled byte by byte, so that they can be compared with their padding. */
 static void reset(void)
@@ -34,9 +34,9 @@ static void same(int line, nachricht_answer answer, nachricht_answer right, cons
     memcpy(expected.out, out, right.count);
     bool good = memcmp(&answer, &right, sizeof answer) == 0 && memcmp(&memory, &expected, sizeof memory) == 0;
     if (!good)
-        printf("null.c:%d: error %d at %d, side %d, count %d, entries %d, fields %d; or a byte changed\n", line,
-               (int)answer.error, (int)answer.place, (int)answer.side, (int)answer.count, (int)answer.entries,
-               (int)answer.fields);
+        printf("null.c:%d: error %d at %d, side %d, row %d, count %d, entries %d, fields %d; or a byte changed\n", line,
+               (int)answer.error, (int)answer.place, (int)answer.side, (int)answer.row, (int)answer.count,
+               (int)answer.entries, (int)answer.fields);
     calls++;
     failures += !good;
     reset();

@@ -101,5 +101,12 @@ int main(void)
 
     /* Without its last byte the second bundle ends in a key: nothing is joined, and `joined` stays as it is. */
     failed("join", nachricht_join(jobs, length, jobs, length - 1, joined, sizeof joined));
+
+    /* A note in Latin-1 is not UTF-8: the place is that of the byte in the text, and the row is told beside it. */
+    static const uint8_t text[] = {'n', 'G', 'r', 0xFC, 0xDF, 'e'};
+    static const nachricht_row note[] = {{NACHRICHT_KEY, 1, 0}, {NACHRICHT_STRING, 5, 1}};
+    nachricht_answer written = nachricht_write(note, 2, text, sizeof text, jobs, sizeof jobs);
+    if (failed("write", written))
+        printf("row %" PRIu64 "\n", written.row);
     return 0;
 }

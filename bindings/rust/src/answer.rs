@@ -12,10 +12,14 @@ pub fn read(answer: Answer) -> Result<Answer, Error> {
     or_at(answer, place)
 }
 
-/// Of writing: places are rows.
+/// Of writing: places are rows, and in content that is not UTF-8 offsets in the text.
 pub fn written(answer: Answer) -> Result<Answer, Error> {
     let place = match answer.error {
         1 | 7 => Place::Whole,
+        3 => Place::Text {
+            offset: answer.place as usize,
+            row: answer.row as usize,
+        },
         _ => Place::Row(answer.place as usize),
     };
     or_at(answer, place)

@@ -21,6 +21,22 @@ use std::collections::HashMap;
 /// assert_eq!(error, Error::Truncated(Place::Row(1)));
 /// # Ok::<(), Error>(())
 /// ```
+///
+/// The row of an error leads to the item, here a string in Latin-1:
+///
+/// ```
+/// use nachricht::{Builder, Error, Item, Place};
+///
+/// let mut note = Builder::new();
+/// note.key("n").string(b"Gr\xFC\xDFe");
+/// let error = note.finish().unwrap_err();
+/// assert_eq!(error, Error::InvalidUtf8(Place::Text { offset: 3, row: 1 }));
+///
+/// let row = note.rows()[error.row().unwrap()];
+/// let content = row.item(note.text()).and_then(Item::content).unwrap();
+/// let (good, bad) = content.split_at(error.place() - row.start);
+/// assert_eq!((good, bad), (&b"Gr"[..], &b"\xFC\xDFe"[..]));
+/// ```
 #[derive(Clone, Debug, Default)]
 pub struct Builder {
     rows: Vec<Row>,

@@ -14,13 +14,28 @@ use std::fmt;
 /// assert_eq!((error.number(), error.place()), (5, 2));
 /// assert_eq!(error.to_string(), "a key straight after a key, at offset 2");
 /// ```
+///
+/// In a text that is not UTF-8, here one in Latin-1, the place is that of the byte:
+///
+/// ```
+/// use nachricht::{Bundle, Error, Place};
+///
+/// let bytes = b"\xC1n\x85Gr\xFC\xDFe";
+/// let error = Bundle::read(bytes).unwrap_err();
+/// assert_eq!(error, Error::InvalidUtf8(Place::Offset(5)));
+///
+/// let place = error.place();
+/// let around = &bytes[place.saturating_sub(2)..bytes.len().min(place + 2)];
+/// assert_eq!(around.escape_ascii().to_string(), r"Gr\xfc\xdf");
+/// ```
 #[derive(Clone, Copy, PartialEq, Eq, Hash, Debug)]
 pub enum Error {
     /// 1: a bundle or text is over [`MAX_BYTES`] bytes.
     TooLong(Place),
     /// 2: an item or part of it is due, and the bytes or rows have ended.
     Truncated(Place),
-    /// 3: a string, symbol or key is not UTF-8.
+    /// 3: a string, symbol or key is not UTF-8. The place is the offset of the first byte that cannot come next in it,
+    /// or the offset just after its content where that ends too early.
     InvalidUtf8(Place),
     /// 4: a reference to an entry not yet made.
     UndefinedReference(Place),
@@ -87,10 +102,16 @@ impl Error {
         }
     }
 
-    /// Where the error is as a number: an offset in reading, canonicalizing and joining, a row's number in writing, and
-    /// 0 for what concerns no item.
+    /// Where the error is as a number: an offset in reading, canonicalizing and joining; in writing a row's number, or
+    /// for [`InvalidUtf8`](Error::InvalidUtf8) an offset in the text; 0 for what concerns no item.
     pub fn place(self) -> usize {
         self.located().number()
+    }
+
+    /// The number of the row, if the error is one of writing and concerns a row: of the first bad one, or how many
+    /// there are where one more is due.
+    pub fn row(self) -> Option<usize> {
+        self.located().row()
     }
 
     /// The bundle that does not read, if the error is one of joining.

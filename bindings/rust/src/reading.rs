@@ -35,7 +35,8 @@ pub struct Counts {
 ///
 /// # Errors
 ///
-/// [`TooLong`](Error::TooLong); then what is wrong with the first bad item, at its offset.
+/// [`TooLong`](Error::TooLong); then what is wrong with the first bad item, at its offset, or at that of the byte that
+/// makes it [`InvalidUtf8`](Error::InvalidUtf8).
 pub fn check(bytes: &[u8], mode: Mode) -> Result<Counts, Error> {
     answer::read(nachricht_sys::check(bytes, mode == Mode::Strict)).map(answer::counts)
 }

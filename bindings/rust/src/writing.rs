@@ -21,7 +21,8 @@ use crate::{answer, Error, Row};
 /// # Errors
 ///
 /// [`TooManyRows`](Error::TooManyRows) and [`TooLong`](Error::TooLong) of the slices; then what is wrong with the first
-/// bad row, at its number; then [`Truncated`](Error::Truncated) where rows are missing, at the number of rows; then
+/// bad row, at its number, or at the byte of the text that makes it [`InvalidUtf8`](Error::InvalidUtf8); then
+/// [`Truncated`](Error::Truncated) where rows are missing, at the number of rows; then
 /// [`OutputTooLong`](Error::OutputTooLong).
 pub fn write(rows: &[Row], text: &[u8], out: &mut [u8]) -> Result<usize, Error> {
     answer::written(nachricht_sys::write(rows, text, out)).map(answer::length)

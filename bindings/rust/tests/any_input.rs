@@ -3,11 +3,12 @@
 use nachricht::limits::MAX_ROWS;
 use nachricht::{
     check, enveloped, joined, open, read_into, to_canonical, written, Builder, Bundle, Error, Item,
-    Mode, Row,
+    Mode, Place, Row,
 };
 
 /// Calls everything with the bytes as input, and answers whether they are a bundle.
 fn answer(bytes: &[u8]) -> bool {
+    content(bytes);
     let _ = open(bytes);
     assert_eq!(open(&enveloped(bytes).unwrap()), Ok(bytes));
     let mut rows = [Row::default(); MAX_ROWS];
@@ -32,6 +33,26 @@ fn refuse(bytes: &[u8], error: Error) {
         (first.number(), first.place()),
         (error.number(), error.place())
     );
+}
+
+/// A string of these bytes is refused where they stop being the beginning of a UTF-8 text, in writing and reading.
+fn content(bytes: &[u8]) {
+    let Err(error) = Builder::new().string(bytes).finish() else {
+        return;
+    };
+    let offset = error.place();
+    assert_eq!(error, Error::InvalidUtf8(Place::Text { offset, row: 0 }));
+    assert!(begins_text(&bytes[..offset]));
+    assert!(offset == bytes.len() || !begins_text(&bytes[..=offset]));
+    let header = [0x80 + bytes.len() as u8];
+    let read = check(&[&header, bytes].concat(), Mode::Lenient);
+    assert_eq!(read, Err(Error::InvalidUtf8(Place::Offset(1 + offset))));
+}
+
+/// Whether the bytes begin a UTF-8 text: they are one with the bytes that are due at their end.
+fn begins_text(bytes: &[u8]) -> bool {
+    let with = |due: &[u8]| Builder::new().string([bytes, due].concat()).finish();
+    (0..=3).any(|due| with(&[0x80; 3][..due]).is_ok())
 }
 
 /// The rows, the items and the bytes of a bundle have one canonical encoding.

@@ -77,10 +77,11 @@ fn errors() {
         fails(Builder::new().key("a").key("b")),
         Error::UnexpectedKey(row)
     );
-    assert_eq!(
-        fails(Builder::new().null().string([0xFF])),
-        Error::InvalidUtf8(row)
-    );
+    let byte = |offset, row| Error::InvalidUtf8(Place::Text { offset, row });
+    assert_eq!(fails(Builder::new().null().string([0xFF])), byte(0, 1));
+    let mut names = Builder::new();
+    names.key("d").null().key("d").null().key([b'd', 0xFF]);
+    assert_eq!(fails(&names), byte(2, 4));
     assert_eq!(fails(Builder::new().container(1)), Error::Truncated(row));
     let long = vec![0; MAX_BYTES];
     assert_eq!(fails(Builder::new().bytes(&long)), Error::OutputTooLong);

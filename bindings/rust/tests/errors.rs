@@ -2,8 +2,8 @@
 
 use nachricht::limits::{MAX_BYTES, MAX_DEPTH, MAX_ENTRIES, MAX_ROWS};
 use nachricht::{
-    canonicalize, check, close, join, open, read_into, write, Builder, Error, Kind, Mode, Place,
-    Row, Side,
+    canonicalize, check, close, join, joined, open, read_into, to_canonical, write, Builder, Error,
+    Kind, Mode, Place, Row, Side,
 };
 
 /// The number, the place and the words of an error.
@@ -49,7 +49,7 @@ fn each_error_of_reading() {
     let cases: [(&[u8], Error); 7] = [
         (&[0; MAX_BYTES + 1], Error::TooLong(Place::Whole)),
         (&[0xC1, 0x64], Error::Truncated(two)),
-        (&[0, 0x81, 0xFF], Error::InvalidUtf8(one)),
+        (&[0, 0x81, 0xFF], Error::InvalidUtf8(two)),
         (&[0xE0], Error::UndefinedReference(start)),
         (&[0xC0, 0xC0], Error::UnexpectedKey(one)),
         (&[0, 0, 0], Error::TooManyRows(two)),
@@ -57,7 +57,7 @@ fn each_error_of_reading() {
     ];
     for (bytes, error) in cases {
         assert_eq!(reading(bytes, Mode::Strict), error);
-        assert_eq!(error.side(), None);
+        assert_eq!((error.side(), error.row()), (None, None));
     }
     let fails = |bytes| check(bytes, Mode::Lenient).unwrap_err();
     let (depth, rows) = (Place::Offset(MAX_DEPTH), Place::Offset(MAX_ROWS));
@@ -76,6 +76,7 @@ fn each_error_of_writing() {
     let name = Place::Row(MAX_ENTRIES);
     let letters = [b'a'; MAX_BYTES + 1];
     let second = Place::Row(1);
+    let byte = Place::Text { offset: 0, row: 1 };
     let cases: [(&[Row], &[u8], Error); 9] = [
         (
             &[null; MAX_ROWS + 1],
@@ -86,7 +87,7 @@ fn each_error_of_writing() {
         (&[null, string], &[], Error::InvalidRow(second)),
         (&[key, key], b"d", Error::UnexpectedKey(second)),
         (&deep, &[], Error::TooDeep(Place::Row(MAX_DEPTH))),
-        (&[null, string], &[0xFF], Error::InvalidUtf8(second)),
+        (&[null, string], &[0xFF], Error::InvalidUtf8(byte)),
         (&names, &letters[1..MAX_BYTES], Error::TooManyEntries(name)),
         (&[key], b"d", Error::Truncated(second)),
         (&[null; 5], &[], Error::OutputTooLong),
@@ -119,6 +120,78 @@ fn each_error_of_joining() {
     }
     let error = Error::UndefinedReference(second);
     assert_eq!((error.side(), error.place()), (Some(Side::Second), 1));
+    assert_eq!(error.row(), None);
+}
+
+/// Bundles with content that is not UTF-8, and the offset at which it stops being so.
+fn not_utf8() -> Vec<(Vec<u8>, usize)> {
+    let mut bundles = vec![
+        (vec![0x82, 0xE0, 0x41], 2),
+        (vec![0x82, 0xE0, 0x80], 3),
+        (vec![0x00, 0x82, 0x61, 0xC3, 0x00], 4),
+        (vec![0xA4, 0xF4, 0xBF, 0xBF, 0xC0], 4),
+        (vec![0xC2, 0x61, 0xF0, 0x00], 3),
+    ];
+    // A byte that cannot come after a letter, or else a lead byte, after which a letter cannot come.
+    for byte in 0x80..=0xFF {
+        let lead = matches!(byte, 0xC2..=0xF4);
+        bundles.push((vec![0x83, b'a', byte, b'a'], 2 + usize::from(lead)));
+    }
+    bundles
+}
+
+#[test]
+fn byte_of_a_bundle_that_is_not_utf8() {
+    for (bytes, offset) in not_utf8() {
+        let error = Error::InvalidUtf8(Place::Offset(offset));
+        for mode in [Mode::Lenient, Mode::Strict] {
+            assert_eq!(check(&bytes, mode), Err(error));
+            assert_eq!(reading(&bytes, mode), error);
+        }
+        assert_eq!(to_canonical(&bytes), Err(error));
+        let at = |side| Err(Error::InvalidUtf8(Place::Joining(side, offset)));
+        assert_eq!(joined(&bytes, &bytes), at(Side::First));
+        assert_eq!(joined(&[0x00], &bytes), at(Side::Second));
+    }
+}
+
+/// Content may begin anywhere in the text and end before it does; the last case has a good name of the same start.
+#[test]
+fn byte_of_the_text_that_is_not_utf8() {
+    let row = Row::new;
+    let null = Row::default();
+    let cases: [(&[Row], &[u8], usize, usize); 5] = [
+        (&[null, row(Kind::String, 2, 0)], b"d\xFF", 1, 1),
+        (&[row(Kind::String, 3, 1)], b"\xFFd\xC3d", 3, 0),
+        (&[null, row(Kind::Symbol, 2, 0)], b"d\xC3\xBC", 2, 1),
+        (&[row(Kind::Symbol, 3, 1)], b"d\xF0\x80\x80", 4, 0),
+        (
+            &[row(Kind::Key, 1, 0), null, row(Kind::Key, 2, 0)],
+            b"d\xFF",
+            1,
+            2,
+        ),
+    ];
+    for (rows, text, offset, row) in cases {
+        let error = writing(rows, text);
+        assert_eq!(error, Error::InvalidUtf8(Place::Text { offset, row }));
+        assert_eq!((error.place(), error.row()), (offset, Some(row)));
+    }
+}
+
+#[test]
+fn rows() {
+    let places = [
+        (Place::Row(1), Some(1)),
+        (Place::Text { offset: 4, row: 2 }, Some(2)),
+        (Place::Offset(1), None),
+        (Place::Joining(Side::First, 1), None),
+        (Place::Whole, None),
+    ];
+    for (place, row) in places {
+        assert_eq!(Error::InvalidUtf8(place).row(), row);
+    }
+    assert_eq!(Error::OutputTooLong.row(), None);
 }
 
 #[test]
@@ -145,6 +218,8 @@ fn each_error_of_canonicalizing_and_envelopes() {
 fn words() {
     let first = Error::Truncated(Place::Joining(Side::First, 7));
     let row = Error::InvalidRow(Place::Row(2));
+    let byte = Error::InvalidUtf8(Place::Text { offset: 1, row: 2 });
+    let not_utf8 = "a string, symbol or key is not UTF-8, at offset 1 of the text, in row 2";
     let name = Error::TooManyEntries(Place::Whole);
     let cases = [
         (
@@ -156,6 +231,7 @@ fn words() {
             ),
         ),
         (row, (9, 2, "a row that means nothing, at row 2")),
+        (byte, (3, 1, not_utf8)),
         (name, (8, 0, "more than 256 names")),
         (
             Error::OutputTooLong,

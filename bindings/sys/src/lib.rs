@@ -16,6 +16,8 @@ pub struct Answer {
     pub place: u64,
     /// In joining: 1 or 2 for the bundle that does not read, else 0.
     pub side: u64,
+    /// In writing: beside error 3 the number of the row; else 0.
+    pub row: u64,
     /// Rows read, bytes written, or in opening the bundle's length; 0 beside an error.
     pub count: u64,
     /// In checking and reading: entries in the symbol table; 0 beside an error.
