@@ -3,7 +3,7 @@ use mathlib.Core.Path.{_≡_, refl, ap, sym, subst, _∙_}
 use mathlib.Core.Logic.{_≢_}
 use mathlib.Core.Bool.{true, false, not, _&&_}
 use mathlib.Core.List.{List, [], _∷_, _++_, append-assoc}
-use mathlib.Core.Option.{none, some}
+use mathlib.Core.Option.{Option, none, some}
 use Prim.Native.Nat.{ℕ, _+_, _^_, _≤_, _<_}
 use native.Mathlib.Numerals.{add-one}
 use native.Mathlib.Omega.{arith}
@@ -22,7 +22,7 @@ use Rattle.format.specs.Item.{Item, isText, isName, isKey, isContainer}
 use Rattle.format.specs.Canonical.{full}
 use Rattle.format.specs.Names.{noted}
 use Rattle.format.specs.Place.{keyAfterKey, tooDeep, moved}
-use Rattle.format.specs.Rows.{itemAt}
+use Rattle.format.specs.Rows.{contentOf, itemAt}
 use Rattle.format.specs.Writing.{isBad, Progress, begin, withItem, rowRules, judge}
 use Rattle.format.specs.Limits.{max-depth, max-entries, max-item, max-rows}
 use Rattle.rows.specs.Plan.{plan-size}
@@ -39,6 +39,10 @@ use Rattle.rows.proofs.StackLaws.{opened-length, stands-value, stands-k
 use Rattle.encoder.proofs.MeasureLaws.{names-more, measure-plain}
 
 -- ---- the rules, in their order
+
+-- What rule 3 gives, with a row beside.
+abbrev pub bad-text : List ℕ → Row → ℕ → Option Failure
+bad-text text r row = some (failureBeside InvalidUtf8 (r .start + badAt (contentOf text r)) row)
 
 module _ (text : List ℕ) (p : Progress) (r : Row) where
   abbrev x : Item
@@ -60,8 +64,8 @@ module _ (text : List ℕ) (p : Progress) (r : Row) where
 
       module _ (flat : tooDeep (p .place) (itemAt text r) ≡ false) where
         pub rule-3 : isText (itemAt text r) && not (utf8 (itemAt text r .content)) ≡ true
-            → first (rowRules text p r) ≡ some (failureBeside InvalidUtf8 (r .start + badAt (itemAt text r .content)) (p .row))
-        unfolding rowRules first rule pick
+            → first (rowRules text p r) ≡ bad-text text r (p .row)
+        unfolding rowRules first rule pick itemAt
         rule-3 h = rw (fine, keys, flat, h)
 
         module _ (texts : isText (itemAt text r) && not (utf8 (itemAt text r .content)) ≡ false) where
@@ -112,8 +116,8 @@ module _ (text : List ℕ) (p : Progress) (r : Row) where
 
 module _ {text es links st plan : List ℕ} {xs : List Row} {s : State} (a : After text es links st plan xs s) (r : Row) where
   -- it is refused, whatever became of the tables
-  refuse-at : {es′ links′ st′ plan′ : List ℕ} {e : Error} (k : RowError e) (place : ℕ) {t : State} → t ≡ refused s (codeOf e) place
-      → first (rowRules text (a .progress) r) ≡ some (failureBeside e place (rowBeside (codeOf e) (s .row)))
+  refuse-at : {es′ links′ st′ plan′ : List ℕ} {e : Error} (k : RowError e) (place : ℕ) {t : State}
+      → t ≡ refused s (codeOf e) place → first (rowRules text (a .progress) r) ≡ some (failureBeside e place (rowBeside (codeOf e) (s .row)))
       → Next text es′ links′ st′ plan′ xs r s t
   unfolding refused
   refuse-at {e = e} k place q rules =
@@ -132,19 +136,22 @@ module _ {text es links st plan : List ℕ} {xs : List Row} {s : State} (a : Aft
       })
 
   -- at its number
-  pub refuse-next : {es′ links′ st′ plan′ : List ℕ} {e : Error} (k : PlainError e) {t : State} → t ≡ refused s (codeOf e) (s .row)
-      → first (rowRules text (a .progress) r) ≡ some (failure e (a .progress .row)) → Next text es′ links′ st′ plan′ xs r s t
+  pub refuse-next : {es′ links′ st′ plan′ : List ℕ} {e : Error} (k : PlainError e) {t : State}
+      → t ≡ refused s (codeOf e) (s .row) → first (rowRules text (a .progress) r) ≡ some (failure e (a .progress .row))
+      → Next text es′ links′ st′ plan′ xs r s t
   refuse-next {e = e} k q rules =
       refuse-at (plain k) (s .row) q
-      (rules ∙ ap (λ (n : ℕ). some (failure e n)) (a .row) ∙ ap (λ (n : ℕ). some (failureBeside e (s .row) n)) (sym (none-beside k (s .row))))
+      (rules ∙ ap (λ (n : ℕ). some (failure e n)) (a .row)
+      ∙ ap (λ (n : ℕ). some (failureBeside e (s .row) n)) (sym (none-beside k (s .row))))
 
   -- for a text that is not UTF-8, at an offset in the text
-  pub refuse-text-next : {es′ links′ st′ plan′ : List ℕ} (place : ℕ) {t : State} → t ≡ refused s (codeOf InvalidUtf8) place
-      → first (rowRules text (a .progress) r) ≡ some (failureBeside InvalidUtf8 place (a .progress .row))
-      → Next text es′ links′ st′ plan′ xs r s t
-  refuse-text-next place q rules =
-      refuse-at invalid-utf8 place q
-      (rules ∙ ap (λ (n : ℕ). some (failureBeside InvalidUtf8 place n)) (a .row ∙ sym (row-beside (s .row))))
+  pub refuse-text-next : {es′ links′ st′ plan′ part : List ℕ} {t : State} → part ≡ contentOf text r
+      → t ≡ refused s (codeOf InvalidUtf8) (r .start + badAt part)
+      → first (rowRules text (a .progress) r) ≡ bad-text text r (a .progress .row) → Next text es′ links′ st′ plan′ xs r s t
+  refuse-text-next e q rules =
+      refuse-at invalid-utf8 (r .start + badAt (contentOf text r))
+      (q ∙ ap (λ (bs : List ℕ). refused s (codeOf InvalidUtf8) (r .start + badAt bs)) e)
+      (rules ∙ ap (bad-text text r) (a .row ∙ sym (row-beside (s .row))))
 
   -- it is taken
   pub take-next : {es′ links′ st′ plan′ : List ℕ} (t : State) → first (rowRules text (a .progress) r) ≡ none

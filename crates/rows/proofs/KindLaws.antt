@@ -9,12 +9,12 @@ use native.Mathlib.Omega.{arith}
 use lib.Dec.{eqb, ltb}
 use lib.ListN.{length, length-append}
 use Rattle.format.specs.declared.row.Row.{Row}
-use Rattle.format.specs.declared.error.Error.the-variants.{InvalidUtf8, TooDeep, TooManyEntries, UnexpectedKey}
+use Rattle.format.specs.declared.error.Error.the-variants.{TooDeep, TooManyEntries, UnexpectedKey}
 use Rattle.format.specs.Code as Code
 use Rattle.format.specs.Kind as Kind
-use Rattle.format.specs.Answer.{failure, failureBeside, first}
+use Rattle.format.specs.Answer.{failure, first}
 use Rattle.format.specs.Header.{header}
-use Rattle.format.specs.Utf8.{badAt, utf8}
+use Rattle.format.specs.Utf8.{utf8}
 use Rattle.format.specs.Item.{hasContent, isText, isName}
 use Rattle.format.specs.Names.{index, noted, namesFrom}
 use Rattle.format.specs.Canonical.{full}
@@ -29,7 +29,7 @@ use Rattle.rows.specs.Judging.{After}
 use Rattle.encoder.proofs.Lengths.{header-most, length-sized}
 use Rattle.rows.proofs.RowLaws.{content-kinds, bad-content, bad-plain, number-other, inside, content-length}
 use Rattle.encoder.proofs.MeasureLaws.{known-text}
-use Rattle.rows.proofs.JudgeLaws.{rule-5, rule-6, rule-3, rule-8, rule-none, names-count, keys-are, depth-is, no-keys, few-names}
+use Rattle.rows.proofs.JudgeLaws.{bad-text, rule-5, rule-6, rule-3, rule-8, rule-none, names-count, keys-are, depth-is, no-keys, few-names}
 
 -- ---- with content
 
@@ -65,7 +65,7 @@ module _ {text es links st plan : List ℕ} {xs : List Row} {s : State} (a : Aft
   plain-deep e d = rule-6 text (a .progress) r fine (no-keys a r lo) (depth-is a r ∙ and-yes (eqb-yes e) (leb-yes d))
 
   pub plain-text : r .kind ≢ Kind.container → eqb (r .kind) Kind.string && not (utf8 (contentOf text r)) ≡ true
-      → first (rowRules text (a .progress) r) ≡ some (failureBeside InvalidUtf8 (r .start + badAt (contentOf text r)) (a .progress .row))
+      → first (rowRules text (a .progress) r) ≡ bad-text text r (a .progress .row)
   unfolding itemAt
   plain-text n e = rule-3 text (a .progress) r fine (no-keys a r lo) (flat n) (ap (λ b. b && not (utf8 (contentOf text r))) text-is ∙ e)
 
@@ -124,7 +124,7 @@ module _ {text es links st plan : List ℕ} {xs : List Row} {s : State} (a : Aft
     name-text = leb-yes {a = 9} {b = r .kind} (omega arith)
 
     pub name-invalid : not (utf8 (contentOf text r)) ≡ true
-        → first (rowRules text (a .progress) r) ≡ some (failureBeside InvalidUtf8 (r .start + badAt (contentOf text r)) (a .progress .row))
+        → first (rowRules text (a .progress) r) ≡ bad-text text r (a .progress .row)
     unfolding itemAt
     name-invalid u = rule-3 text (a .progress) r fine (keys-are a r ∙ alone) name-flat (and-yes name-text u)
 

@@ -10,6 +10,7 @@ use lib.ListN.{length, take, drop, length-drop}
 use lib.Seq.{length-take-le}
 use Rattle.format.specs.declared.row.Row.{Row}
 use Rattle.format.specs.Kind as Kind
+use Rattle.format.specs.Limits.{max-bytes}
 use Rattle.format.specs.Item.{hasContent}
 use Rattle.format.specs.Rows.{contentOf}
 use Rattle.format.specs.Writing.{isBad}
@@ -120,3 +121,7 @@ module _ (text : List ℕ) (r : Row) where
       content-length =
           ap length (sym content-part)
           ∙ length-take-le (r .number) (drop (r .start) text) (omega (arith, length-drop (r .start) text, inside))
+
+      -- it ends where a text may end
+      pub content-end : {part : List ℕ} → part ≡ contentOf text r → length text ≤ max-bytes → r .start + length part ≤ max-bytes
+      content-end e short = omega (arith, ap length e, content-length, inside)

@@ -2,13 +2,9 @@
 use native.Mathlib.Omega.{arith}
 use mathlib.Core.Path.{ap, sym, _∙_}
 use mathlib.Core.Bool.{not}
-use mathlib.Core.List.{List}
-use Prim.Native.Nat.{ℕ, _+_}
-use lib.ListN.{length}
-use Rattle.rows.specs.Steps.{refused}
-use Rattle.format.specs.Utf8.{badAt, utf8}
+use Rattle.format.specs.Utf8.{utf8}
 use Rattle.format.proofs.Tests.{not-false}
-use Rattle.rows.proofs.RowLaws.{kind-most, content-length, inside}
+use Rattle.rows.proofs.RowLaws.{content-end, inside, kind-most}
 use Rattle.rows.specs.Judging.{too-many-entries}
 use Rattle.rows.proofs.JudgeLaws.{refuse-next, refuse-text-next}
 use Rattle.rows.proofs.KindLaws.{name-invalid, fresh-full}
@@ -28,15 +24,14 @@ refuse-text-requires : tie.Need-refuse-text-requires
 refuse-text-requires c κs =
     let s = c .before .before .before .before in
     let p = s .pre in
-    let content = has-content (s .args .text .now) (s .args .row) (p .1 .name) (p .1 .fine) in
-    omega (arith, ap length (c .before .before .content .ensures), content-length (s .args .text .now) (s .args .row) (p .1 .fine) content, inside (s .args .text .now) (s .args .row) (p .1 .fine) content, p .0 .short)
+    content-end _ (s .args .row) (p .1 .fine) (has-content _ (s .args .row) (p .1 .name) (p .1 .fine))
+    (c .before .before .content .ensures) (p .0 .short)
 
 returns : tie.Need-returns
 returns c = λ xs a.
     let s = c .before .before .before .before .before in
     let w = s .pre .1 in
-    refuse-text-next a (s .args .row) _
-    (c .refuse-text .ensures ∙ ap (λ (bs : List ℕ). refused (s .args .s) 3 (s .args .row .start + badAt bs)) (c .before .before .before .content .ensures))
+    refuse-text-next a (s .args .row) (c .before .before .before .content .ensures) (c .refuse-text .ensures)
     (name-invalid a (c .before .before .before .before .before .args .row) (w .name) (w .fine) (w .alone)
     (ap not (ap utf8 (sym (c .before .before .before .content .ensures))
     ∙ sym (c .before .before .is-utf8 .ensures)) ∙ c .before .if1 .taken))

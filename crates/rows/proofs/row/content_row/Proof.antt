@@ -2,13 +2,9 @@
 use native.Mathlib.Omega.{arith}
 use mathlib.Core.Path.{ap, sym, _∙_}
 use mathlib.Core.Bool.{not, _&&_}
-use mathlib.Core.List.{List}
-use Prim.Native.Nat.{ℕ, _+_}
 use lib.Dec.{eqb}
-use lib.ListN.{length}
-use Rattle.rows.specs.Steps.{refused}
-use Rattle.format.specs.Utf8.{badAt, utf8}
-use Rattle.rows.proofs.RowLaws.{content-kinds, content-length, inside}
+use Rattle.format.specs.Utf8.{utf8}
+use Rattle.rows.proofs.RowLaws.{content-end, content-kinds}
 use Rattle.rows.specs.Judging.{invalid-row}
 use Rattle.rows.proofs.JudgeLaws.{rule-9, ready-more, refuse-next, refuse-text-next, value-next, no-key, no-container, measured-plain}
 use Rattle.rows.proofs.KindLaws.{content-bad, content-full, content-small, plain-text, value-none}
@@ -42,11 +38,9 @@ refuse-text-requires : tie.Need-refuse-text-requires
 refuse-text-requires c κs =
     let s = c .before .before .before .before .before .before in
     let p = s .pre in
-    let r = s .args .row in
-    let text = s .args .text .now in
-    let fine = content-bad text r (p .2) (omega (arith, p .1))
+    let fine = content-bad _ (s .args .row) (p .2) (omega (arith, p .1))
     ∙ sym (c .before .before .before .before .outside .ensures) ∙ c .before .before .before .if1 .left in
-    omega (arith, ap length (c .before .before .content .ensures), content-length text r fine (p .2), inside text r fine (p .2), p .0 .short)
+    content-end _ (s .args .row) fine (p .2) (c .before .before .content .ensures) (p .0 .short)
 
 returns-2 : tie.Need-returns-2
 returns-2 c = λ es links plan xs a.
@@ -56,7 +50,7 @@ returns-2 c = λ es links plan xs a.
     let text = c .before .before .before .before .before .before .before .args .text .now in
     let fine = content-bad text r (p .2) (omega (arith, p .1))
     ∙ sym (c .before .before .before .before .before .outside .ensures) ∙ c .before .before .before .before .if1 .left in
-    refuse-text-next a r _ (c .refuse-text .ensures ∙ ap (λ (bs : List ℕ). refused (s .args .s) 3 (r .start + badAt bs)) (c .before .before .before .content .ensures))
+    refuse-text-next a r (c .before .before .before .content .ensures) (c .refuse-text .ensures)
     (plain-text a r (p .1) fine (content-kinds (r .kind) (p .2) .1 .1)
     (ap (λ bs. eqb (r .kind) 9 && not (utf8 bs)) (sym (c .before .before .before .content .ensures))
     ∙ sym (c .before .before .bad-text .ensures) ∙ c .before .if2 .taken))
