@@ -1,6 +1,6 @@
 //! What is measured: the library, and the two anchors.
 
-use crate::anchors::{counted, hand, tuned, written};
+use crate::anchors::{counted, hand, joined, tuned, written};
 use nachricht_sys::{Answer, Row};
 
 /// The calls of an implementation, as the C interface has them.
@@ -28,11 +28,11 @@ macro_rules! anchor {
     ($module:ident) => {
         Codec {
             name: stringify!($module),
-            check: |bytes, strict| counted($module::check(bytes, strict)),
-            read: |bytes, strict, rows| counted($module::read(bytes, strict, rows)),
-            write: |rows, text, out| written($module::write(rows, text, out)),
-            canonicalize: |bytes, out| written($module::canonicalize(bytes, out)),
-            join: |first, second, out| written($module::join(first, second, out)),
+            check: |bytes, strict| counted($module::check(bytes, strict), bytes),
+            read: |bytes, strict, rows| counted($module::read(bytes, strict, rows), bytes),
+            write: |rows, text, out| written($module::write(rows, text, out), rows, text),
+            canonicalize: |bytes, out| joined($module::canonicalize(bytes, out), bytes, &[]),
+            join: |first, second, out| joined($module::join(first, second, out), first, second),
         }
     };
 }

@@ -3,11 +3,13 @@
 use bench::agreement::differences;
 use bench::codec::{Codec, ANCHORS, LIBRARY};
 use bench::corpora::corpora;
+use comparison::bad_texts::{self, BadText, CODES};
 use comparison::buffer::{capacities, Outcome};
 use comparison::{inputs, row, table, Tally, MODES};
 use nachricht_sys::{Answer, Row};
 use reference::generate::pairs::{self, Pair};
 use reference::generate::tables::Table;
+use reference::generate::texts::FAULTS;
 use reference::generate::Random;
 use reference::{Mode, MAX_BYTES, MAX_ROWS};
 
@@ -84,12 +86,38 @@ fn writing() {
                 capacity,
             } = &table;
             let expected = Outcome::expected(*capacity, |out| reference::write(rows, text, out));
-            let rows: Vec<Row> = rows.iter().copied().map(row::to_c).collect();
+            let rows = row::all_to_c(rows);
             let outcome = Outcome::of(*capacity, |out| (anchor.write)(&rows, text, out));
             outcome.assert_is(&expected, &(anchor.name, &table));
             tally.add(outcome.answer);
         }
         tally.assert_complete();
+    }
+}
+
+/// Compares checking and writing of a text that is not UTF-8, as a string, a symbol and a key.
+fn compare_bad_text(anchor: &Codec, text: &BadText) {
+    for code in CODES {
+        let (bundle, known) = text.in_bundle(code);
+        for strict in [false, true] {
+            let answer = (anchor.check)(&bundle, strict);
+            assert_eq!(answer, known, "{}: {text:02X?}", anchor.name);
+        }
+        let (table, known) = text.in_table(code);
+        let rows = row::all_to_c(&table.rows);
+        let answer = (anchor.write)(&rows, &table.text, &mut []);
+        assert_eq!(answer, known, "{}: {text:02X?}", anchor.name);
+    }
+}
+
+#[test]
+fn bad_texts() {
+    for anchor in &ANCHORS {
+        for length in 1..=70 {
+            for fault in FAULTS {
+                bad_texts::with(fault, length).for_each(|text| compare_bad_text(anchor, &text));
+            }
+        }
     }
 }
 

@@ -52,6 +52,7 @@ fn refused(error: Error) -> Answer {
     Answer {
         error: u64::from(error.number),
         place: error.place as u64,
+        row: error.row as u64,
         ..Answer::default()
     }
 }
@@ -60,8 +61,7 @@ fn refused(error: Error) -> Answer {
 pub fn read(bundle: &[u8], mode: Mode, capacity: usize) -> (Answer, Vec<Row>) {
     let mut rows = vec![reference::Row::default(); capacity];
     let answer = reference::read(bundle, mode, &mut rows).answer();
-    let filled = rows[..answer.count as usize].iter().copied();
-    (answer, filled.map(row::to_c).collect())
+    (answer, row::all_to_c(&rows[..answer.count as usize]))
 }
 
 /// The answer of a call with a buffer of this capacity, and the bytes that are written.

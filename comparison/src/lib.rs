@@ -1,5 +1,6 @@
 //! The proved library and programs compared with the reference: inputs, what is expected for them, and the cases to meet.
 
+pub mod bad_texts;
 pub mod buffer;
 pub mod cases;
 pub mod expected;

@@ -38,10 +38,14 @@ pub fn refusal(name: &str, number: usize) -> String {
 pub fn refused_bundles() -> Vec<(Vec<u8>, String)> {
     let deep = [&[0x61; 33][..], &[0]].concat();
     let last = [&[0x99, 0x3F, 0xFC][..], &[b'x'; MAX_BYTES - 4], &[0xE0]].concat();
-    let bundles: [(&[u8], u8, usize, &str); 9] = [
+    let cut = [&[0x99, 0x3F, 0xFD][..], &[b'x'; MAX_BYTES - 4], &[0xC3]].concat();
+    let bundles: [(&[u8], u8, usize, &str); 12] = [
         (b"\x00\x81", 2, 1, ENDED),
         (b"\xC1d", 2, 2, ENDED),
-        (b"\x00\xA1\xFF", 3, 1, NOT_UTF8),
+        (b"\x00\xA1\xFF", 3, 2, NOT_UTF8),
+        (b"\x82\xE0A", 3, 2, NOT_UTF8),
+        (b"\x00\x82a\xC3\x00", 3, 4, NOT_UTF8),
+        (&cut, 3, 16_384, NOT_UTF8),
         (b"\x00\x00\xE0", 4, 2, UNDEFINED),
         (&last, 4, 16_383, UNDEFINED),
         (b"\xC1d\xC1m", 5, 2, UNEXPECTED),

@@ -10,6 +10,10 @@ pub fn to_c(row: reference::Row) -> Row {
     }
 }
 
+pub fn all_to_c(rows: &[reference::Row]) -> Vec<Row> {
+    rows.iter().copied().map(to_c).collect()
+}
+
 pub fn to_reference(row: Row) -> reference::Row {
     reference::Row {
         kind: row.kind,

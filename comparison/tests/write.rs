@@ -24,7 +24,7 @@ fn compare(table: &Table) -> Answer {
         capacity,
     } = table;
     let expected = Outcome::expected(*capacity, |out| reference::write(rows, text, out));
-    let rows = rows.iter().copied().map(row::to_c).collect::<Vec<_>>();
+    let rows = row::all_to_c(rows);
     let outcome = Outcome::of(*capacity, |out| write(&rows, text, out));
     outcome.assert_is(&expected, table);
     if outcome.answer.error == 0 {

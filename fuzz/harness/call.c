@@ -52,8 +52,8 @@ static void fail(const call *made, placement where, const char *what) {
 }
 
 static void print_answer(const char *whose, const nachricht_answer *answer) {
-    fprintf(stderr, "%s: error %lu place %lu side %lu count %lu entries %lu fields %lu\n", whose,
-            answer->error, answer->place, answer->side, answer->count, answer->entries, answer->fields);
+    fprintf(stderr, "%s: error %lu place %lu side %lu row %lu count %lu entries %lu fields %lu\n", whose,
+            answer->error, answer->place, answer->side, answer->row, answer->count, answer->entries, answer->fields);
 }
 
 /* The padding of a row may be anything, so it is made alike. */

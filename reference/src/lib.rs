@@ -15,7 +15,7 @@ mod limits;
 mod programs;
 mod reading;
 mod structure;
-mod utf8;
+pub mod utf8;
 mod writing;
 
 pub use canonical::canonicalize;

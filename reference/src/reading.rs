@@ -94,7 +94,7 @@ impl Source for Reader<'_> {
         let place = self.position;
         let strict = self.mode == Mode::Strict;
         let rest = &self.bytes[place..];
-        let header = Header::parse(rest).ok_or(Error { number: 2, place })?;
+        let header = Header::parse(rest).ok_or(Error::at(2, place))?;
         let is_wasteful = strict && (header.is_long() || header.is_superfluous_negative());
         fail_if(is_wasteful, 11, place)?;
         let referred = self.referred(header);
@@ -113,8 +113,9 @@ impl Source for Reader<'_> {
             Some(entry) => (entry.name.clone(), entry.start),
             None => (item_in_full(header, content), start),
         };
-        let is_text = item.text().is_some();
-        fail_if(is_text && !utf8::is_valid(content), 3, place)?;
+        let stop = item.text().and_then(|_| utf8::stop(content));
+        let bad_text = stop.map(|offset| Error::at(3, start + offset));
+        bad_text.map_or(Ok(()), Err)?;
         let makes_entry = item.is_name() && !is_reference;
         let is_repeated = strict && makes_entry && self.has_name(&item);
         fail_if(is_repeated, 11, place)?;

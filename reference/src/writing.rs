@@ -37,13 +37,14 @@ impl Source for Writer<'_> {
     /// Takes a row. The rules stand in the order of the paper.
     fn item(&mut self, after_key: bool, open: usize) -> Result<(), Error> {
         let place = self.items.len();
-        let row = self.rows.get(place).ok_or(Error { number: 2, place })?;
-        let item = Item::of_row(*row, self.text).ok_or(Error { number: 9, place })?;
+        let row = self.rows.get(place).ok_or(Error::at(2, place))?;
+        let item = Item::of_row(*row, self.text).ok_or(Error::at(9, place))?;
         fail_if(after_key && item.is_key(), 5, place)?;
         let is_container = matches!(item, Item::Container(_));
         fail_if(is_container && open == MAX_OPEN, 6, place)?;
-        let is_bad_text = item.text().is_some_and(|text| !utf8::is_valid(text));
-        fail_if(is_bad_text, 3, place)?;
+        let stop = item.text().and_then(utf8::stop);
+        let bad_text = stop.map(|offset| Error::at(3, row.start + offset).in_row(place));
+        bad_text.map_or(Ok(()), Err)?;
         let is_new_name = item.is_name() && !self.names.contains(&item);
         fail_if(is_new_name && self.names.len() == MAX_ENTRIES, 8, place)?;
         if is_new_name {

@@ -1,4 +1,5 @@
-//! The generators reach success and every error that each function can give, and no other.
+//! The generators reach success and every error that each function can give, and no other; and bad
+//! texts that stop being good anywhere.
 
 mod common;
 
@@ -6,7 +7,7 @@ use std::collections::BTreeSet;
 
 use common::*;
 use reference::generate::{bundles, capacity, pairs, streams, tables, Random};
-use reference::{Error, Mode};
+use reference::{Error, JoinError, Mode};
 
 const SEEDS: u64 = 25_000;
 
@@ -83,6 +84,90 @@ fn joining_with_plenty_of_capacity() {
         }
     });
     assert_eq!(seen, BTreeSet::from([7, 8, 10]));
+}
+
+/// Where in a content of this length a bad text stops being good.
+fn sort_of_place(offset: usize, length: usize) -> &'static str {
+    match offset {
+        0 => "first byte",
+        _ if offset == length => "end",
+        1..=15 => "early",
+        16..=63 => "later",
+        _ => "late",
+    }
+}
+
+/// All sorts of places, for each of these groups.
+fn all_places<G: Ord + Copy>(groups: &[G]) -> BTreeSet<(G, &'static str)> {
+    let sorts = ["first byte", "end", "early", "later", "late"];
+    let of_group = |group: &G| sorts.map(|sort| (*group, sort));
+    groups.iter().flat_map(of_group).collect()
+}
+
+/// The sort of place at which a bundle with a bad text is refused.
+fn sort_in_bundle(bundle: &[u8], mode: Mode, found: Error) -> &'static str {
+    let lead = lead_of_bad_text(bundle, mode, found);
+    let sz = usize::from(bundle[lead] & 31);
+    let digits = &bundle[lead + 1..][..sz.saturating_sub(23)];
+    let number = digits
+        .iter()
+        .fold(0, |number, digit| number << 8 | usize::from(*digit));
+    let length = if digits.is_empty() { sz } else { number };
+    sort_of_place(found.place - (lead + 1 + digits.len()), length)
+}
+
+#[test]
+fn places_of_bad_texts_read() {
+    let mut seen = BTreeSet::new();
+    for mode in MODES {
+        for_seeds(SEEDS, |_, random| {
+            let bundle = bundles::bundle(random);
+            match reference::check(&bundle, mode) {
+                Err(found) if found.number == 3 => {
+                    seen.insert((mode == Mode::Strict, sort_in_bundle(&bundle, mode, found)));
+                }
+                _ => {}
+            }
+        });
+    }
+    assert_eq!(seen, all_places(&[false, true]));
+}
+
+#[test]
+fn places_of_bad_texts_joined() {
+    let mut seen = BTreeSet::new();
+    for_seeds(SEEDS, |_, random| {
+        let pairs::Pair {
+            first,
+            second,
+            capacity,
+        } = pairs::pair(random);
+        match join(&first, &second, capacity) {
+            Err(JoinError { side, error }) if error.number == 3 => {
+                let bundle = if side == 1 { first } else { second };
+                seen.insert((side, sort_in_bundle(&bundle, Mode::Lenient, error)));
+            }
+            _ => {}
+        }
+    });
+    assert_eq!(seen, all_places(&[1, 2]));
+}
+
+#[test]
+fn places_of_bad_texts_written() {
+    let mut seen = BTreeSet::new();
+    for_seeds(SEEDS, |_, random| {
+        let table = tables::table(random);
+        match write(&table.rows, &table.text, table.capacity) {
+            Err(found) if found.number == 3 => {
+                let row = table.rows[found.row];
+                let sort = sort_of_place(found.place - row.start, row.number as usize);
+                seen.insert((found.row > 0, sort));
+            }
+            _ => {}
+        }
+    });
+    assert_eq!(seen, all_places(&[false, true]));
 }
 
 #[test]

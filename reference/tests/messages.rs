@@ -136,7 +136,7 @@ fn listing_example() {
 #[test]
 fn listing_of_refused_bundles_and_envelopes() {
     let input = hex("00 02 01 E0  00 01 01  00 03 01 A1 FF  00 02 01 00  00 01 02  00 01 01");
-    let printed = "bundle 1 refused 4 at 0\nbundle 2 rows 0 names 0\nbundle 3 refused 3 at 0\n\
+    let printed = "bundle 1 refused 4 at 0\nbundle 2 rows 0 names 0\nbundle 3 refused 3 at 1\n\
         bundle 4 rows 1 names 0\n0 0 0 0\nenvelope 5 refused 13\n";
     assert_eq!(
         String::from_utf8(reference::listing(&input)),
@@ -254,15 +254,21 @@ fn the_condensed_rule_for_text() {
     ];
     let also_good = ["F0 80 80 80", "F4 BF BF BF", "61 C3 A9 62"];
     let bad = [
-        "80", "BF", "C0 80", "C1 BF", "C2", "C2 7F", "C2 C0", "E0 80", "E0 80 7F",
-    ];
-    let also_bad = [
-        "E1 C0 80",
-        "F0 80 80",
-        "F4 80 80 C0",
-        "F5 80 80 80",
-        "FF",
-        "61 80",
+        ("80", 0),
+        ("BF", 0),
+        ("C0 80", 0),
+        ("C1 BF", 0),
+        ("C2", 1),
+        ("C2 7F", 1),
+        ("C2 C0", 1),
+        ("E0 80", 2),
+        ("E0 80 7F", 2),
+        ("E1 C0 80", 1),
+        ("F0 80 80", 3),
+        ("F4 80 80 C0", 3),
+        ("F5 80 80 80", 0),
+        ("FF", 0),
+        ("61 80", 1),
     ];
     for lead in [0x80, 0xA0, 0xC0] {
         let value: &[u8] = if lead == 0xC0 { &[0] } else { &[] };
@@ -273,8 +279,8 @@ fn the_condensed_rule_for_text() {
         for text in good.iter().chain(&also_good) {
             assert!(lenient(&bundle(text)).is_ok(), "{text}");
         }
-        for text in bad.iter().chain(&also_bad) {
-            assert_refused(&bundle(text), 3, 0);
+        for (text, stop) in bad {
+            assert_refused(&bundle(text), 3, 1 + stop);
         }
     }
 }
@@ -319,6 +325,8 @@ fn join_errors_name_the_side() {
     assert_eq!(join(&hex("00 E0"), &hex("81"), PLENTY), bad(1, 4, 1));
     assert_eq!(join(&hex("00"), &hex("81"), PLENTY), bad(2, 2, 0));
     assert_eq!(join(&hex("00"), &hex("00"), 1), bad(0, 10, 0));
+    assert_eq!(join(&hex("82 E0 80"), &hex("81 FF"), PLENTY), bad(1, 3, 3));
+    assert_eq!(join(&hex("00"), &hex("00 82 61 FF"), PLENTY), bad(2, 3, 3));
     // Each bundle has a symbol table of its own.
     assert_eq!(join(&hex("A1 64"), &hex("E0"), PLENTY), bad(2, 4, 0));
 }

@@ -3,7 +3,7 @@
 mod common;
 
 use common::*;
-use reference::{JoinError, Row};
+use reference::{Error, JoinError, Row};
 
 /// This many symbols of two bytes, all different, from the index `from` on.
 fn symbols(from: usize, count: usize) -> Vec<u8> {
@@ -77,7 +77,8 @@ fn long_header_before_the_rest() {
     assert_refused(&after(vec![0x61; 32], "78 00"), 6, 11, 32);
     assert_refused(&hex("98 05"), 2, 11, 0);
     assert_refused(&hex("18 12"), 2, 11, 0);
-    assert_refused(&hex("98 01 FF"), 3, 11, 0);
+    assert_eq!(lenient(&hex("98 01 FF")), Err(error(3, 2)));
+    assert_eq!(strict(&hex("98 01 FF")), Err(error(11, 0)));
     assert_refused(&after(symbols(0, 256), "B8 01 78"), 8, 11, 768);
     assert_refused(&after(nulls(1_024), "38 00"), 7, 11, 1_024);
     let superfluous = "5F FF FF FF FF FF FF FF FF";
@@ -166,8 +167,9 @@ fn cut_content_before_the_rest() {
 
 #[test]
 fn bad_text_before_entries_and_rows() {
-    assert_refused(&after(symbols(0, 256), "A1 FF"), 3, 3, 768);
-    assert_refused(&after(nulls(1_024), "81 FF"), 3, 3, 1_024);
+    assert_refused(&after(symbols(0, 256), "A1 FF"), 3, 3, 769);
+    assert_refused(&after(nulls(1_024), "81 FF"), 3, 3, 1_025);
+    assert_refused(&after(nulls(1_024), "82 61 C3"), 3, 3, 1_027);
 }
 
 #[test]
@@ -214,9 +216,17 @@ fn an_item_due_where_the_bytes_end_is_2_with_full_rows() {
 // Writing.
 
 fn assert_not_written(rows: &[Row], text: &[u8], number: u8, place: usize) {
-    let expected = Err(error(number, place));
+    assert_not_written_with(rows, text, error(number, place));
+}
+
+/// The same for error 3, beside whose place stands the row.
+fn assert_bad_text(rows: &[Row], text: &[u8], place: usize, row: usize) {
+    assert_not_written_with(rows, text, error(3, place).in_row(row));
+}
+
+fn assert_not_written_with(rows: &[Row], text: &[u8], error: Error) {
     for capacity in [0, PLENTY] {
-        assert_eq!(write(rows, text, capacity), expected, "{rows:?}");
+        assert_eq!(write(rows, text, capacity), Err(error), "{rows:?}");
     }
 }
 
@@ -316,12 +326,12 @@ fn write_goes_row_by_row() {
     // 3 before 8.
     let text = [name_text(), vec![0xFF]].concat();
     let names = [name_rows(256), vec![row(10, 1, 600)]].concat();
-    assert_not_written(&names, &text, 3, 256);
+    assert_bad_text(&names, &text, 600, 256);
     // An earlier row before a later one.
     let names = [name_rows(257), vec![BAD]].concat();
     assert_not_written(&names, &text, 8, 256);
     assert_not_written(&[key, key, BAD], b"d", 5, 1);
-    assert_not_written(&[bad_key, BAD], &[b'd', 0xFF], 3, 0);
+    assert_bad_text(&[bad_key, BAD], &[b'd', 0xFF], 1, 0);
 }
 
 #[test]

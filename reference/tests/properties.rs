@@ -104,13 +104,16 @@ fn an_error_leaves_what_stands_before_it_good_or_waiting() {
                 continue;
             };
             assert!(found.place <= bundle.len(), "seed {seed}");
-            if found.number == 1 {
-                continue;
-            }
+            assert_eq!(found.row, 0, "seed {seed}");
+            let lead = match found.number {
+                1 => continue,
+                3 => lead_of_bad_text(&bundle, mode, found),
+                _ => found.place,
+            };
             // Before the refused item all is well, but for an item that may be due there.
-            match read(&bundle[..found.place], mode) {
+            match read(&bundle[..lead], mode) {
                 Ok(_) => {}
-                Err(waiting) => assert_eq!(waiting, error(2, found.place), "seed {seed}"),
+                Err(waiting) => assert_eq!(waiting, error(2, lead), "seed {seed}"),
             }
         }
     });
@@ -212,6 +215,17 @@ fn bad_rows_are_refused() {
 }
 
 #[test]
+fn bad_texts_are_refused_where_they_stop_being_good() {
+    for_seeds(40_000, |seed, random| {
+        let (bundle, error) = bundles::with_bad_text(random);
+        assert_eq!(lenient(&bundle), Err(error), "seed {seed}");
+        let (table, error) = tables::with_bad_text(random);
+        let written = write(&table.rows, &table.text, table.capacity);
+        assert_eq!(written, Err(error), "seed {seed}");
+    });
+}
+
+#[test]
 fn what_is_written_reads_as_the_rows() {
     for_seeds(30_000, |seed, random| {
         let table = tables::table(random);
@@ -225,24 +239,25 @@ fn what_is_written_reads_as_the_rows() {
 }
 
 #[test]
-fn write_errors_need_only_the_rows_up_to_their_place() {
+fn write_errors_need_only_the_rows_up_to_the_bad_one() {
     for_seeds(40_000, |seed, random| {
         let table = tables::table(random);
         let (rows, text) = (&table.rows, &table.text);
         let Err(found) = write(rows, text, table.capacity) else {
             return;
         };
-        match found.number {
-            1 | 7 | 10 => assert_eq!(found.place, 0),
-            2 => assert_eq!(found.place, rows.len(), "seed {seed}"),
-            _ => {
-                let upto = write(&rows[..=found.place], text, table.capacity);
-                assert_eq!(upto, Err(found), "seed {seed}");
-                let before = write(&rows[..found.place], text, PLENTY);
-                let fine = before.map_or_else(|error| matches!(error.number, 2 | 10), |_| true);
-                assert!(fine, "seed {seed}");
-            }
-        }
+        assert!(found.number == 3 || found.row == 0, "seed {seed}");
+        let bad = match found.number {
+            1 | 7 | 10 => return assert_eq!(found.place, 0),
+            2 => return assert_eq!(found.place, rows.len(), "seed {seed}"),
+            3 => found.row,
+            _ => found.place,
+        };
+        let upto = write(&rows[..=bad], text, table.capacity);
+        assert_eq!(upto, Err(found), "seed {seed}");
+        let before = write(&rows[..bad], text, PLENTY);
+        let fine = before.map_or_else(|error| matches!(error.number, 2 | 10), |_| true);
+        assert!(fine, "seed {seed}");
     });
 }
 

@@ -17,4 +17,4 @@ pub mod tuned;
 mod utf8;
 mod writing;
 
-pub use outcome::{counted, written, Counts, Error, Failure};
+pub use outcome::{counted, joined, written, Counts, Error, Failure};

@@ -67,6 +67,7 @@ pub fn look(tally: &mut Tally, table: &Table, answer: Answer) {
     match answer.error {
         0 => look_at_success(tally, table, answer.count as usize),
         1 => tally.look_for("1: a byte too many", text == MAX_BYTES + 1),
+        3 => look_at_bad_text(tally, &table.rows[answer.row as usize], answer),
         7 => tally.look_for("7: a row too many", rows == MAX_ROWS + 1),
         9 => look_at_bad_row(tally, &table.rows[answer.place as usize], text),
         10 => look_at_refused(tally, result_of(table), table.capacity),
@@ -92,6 +93,19 @@ fn look_at_success(tally: &mut Tally, table: &Table, written: usize) {
     for (case, is_so) in JUST_GOOD {
         tally.look_for(case, table.rows.iter().any(|row| is_so(row, text)));
     }
+}
+
+/// Looks at where the content of a row stops being good.
+fn look_at_bad_text(tally: &mut Tally, row: &Row, answer: Answer) {
+    let offset = answer.place - row.start as u64;
+    let is_inside = (1..row.number).contains(&offset);
+    tally.look_for("3: first byte of the content", offset == 0);
+    tally.look_for("3: later byte of the content", is_inside);
+    tally.look_for("3: end of the content", offset == row.number);
+    tally.look_for("3: content at the text's start", row.start == 0);
+    tally.look_for("3: content further back", row.start > 0);
+    tally.look_for("3: first row", answer.row == 0);
+    tally.look_for("3: later row", answer.row > 0);
 }
 
 /// Each clause has to be the only one broken in some row.

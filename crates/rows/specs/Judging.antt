@@ -36,12 +36,12 @@ pub data RowError : Error → Type 0 where
 unfoldable pub rowBeside : ℕ → ℕ → ℕ
 rowBeside e row = pick (eqb e (codeOf InvalidUtf8)) row 0
 
--- Rows are refused with an error, at the place of a state that has its number.
+-- Rows are refused with an error, at the place of a state that has its number: that is its size.
 pub record RefusedAs (judgement : Answer Progress) (s : State) : Type 0 where
   pub error : Error
   pub of-row : RowError error
   pub number : codeOf error ≡ s .error
-  pub is : judgement ≡ failed (failureBeside error (s .place) (rowBeside (s .error) (s .row)))
+  pub is : judgement ≡ failed (failureBeside error (s .size) (rowBeside (s .error) (s .row)))
 
 -- The rows xs were taken, and s is the state after them.
 pub record After (text es links st plan : List ℕ) (xs : List Row) (s : State) : Type 0 where

@@ -16,8 +16,7 @@ refused s e place = record {
   left = s .left;
   keyed = s .keyed;
   names = s .names;
-  size = s .size;
-  place = place;
+  size = place;
   error = e;
 }
 
@@ -25,7 +24,7 @@ refused s e place = record {
 unfoldable pub valued : List ℕ → State → ℕ → ℕ → State
 valued st s names n =
     let to = closed st (s .depth) (s .left) in
-    record { row = s .row + 1; end = s .end; depth = to .depth; left = to .left; keyed = 0; names = names; size = s .size + n; place = 0; error = 0 }
+    record { row = s .row + 1; end = s .end; depth = to .depth; left = to .left; keyed = 0; names = names; size = s .size + n; error = 0 }
 
 -- after a key of n bytes
 unfoldable pub keyedBy : State → ℕ → ℕ → State
@@ -37,7 +36,6 @@ keyedBy s names n = record {
   keyed = 1;
   names = names;
   size = s .size + n;
-  place = 0;
   error = 0;
 }
 
@@ -55,6 +53,5 @@ openedBy s fields n = record {
   keyed = 0;
   names = s .names;
   size = s .size + n;
-  place = 0;
   error = 0;
 }

@@ -47,7 +47,6 @@ pub fn value(stack: &[u64; Bundle::MAX_DEPTH], s: State, names: usize, n: usize)
         keyed: 0,
         names,
         size: s.size + n,
-        place: 0,
         error: 0,
     }
 }
@@ -67,7 +66,6 @@ pub fn named(stack: &[u64; Bundle::MAX_DEPTH], s: State, kind: u8, names: usize,
             keyed: 1,
             names,
             size: s.size + n,
-            place: 0,
             error: 0,
         };
     }
@@ -90,7 +88,6 @@ pub fn descend(stack: &mut [u64; Bundle::MAX_DEPTH], s: State, fields: u64, n: u
         keyed: 0,
         names: s.names,
         size: s.size + n,
-        place: 0,
         error: 0,
     }
 }

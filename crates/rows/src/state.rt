@@ -23,10 +23,10 @@ pub struct State {
     pub keyed: usize,
     // different names
     pub names: usize,
-    // bytes of the canonical encoding
+    // bytes of the canonical encoding, or the place of the error: the row's number, or for a text that is not UTF-8 an
+    // offset in the text. With a field of its own for that writing integers took 1.13 times as long, names and boards
+    // 1.03 times (four runs of the bench).
     pub size: usize,
-    // 0, or the place of the error: its row's number, or for a text that is not UTF-8 an offset in the text
-    pub place: usize,
     // 0, or the number of the error. No `Outcome`: with one, tried unproved, writing boards took 1.08 to 1.12 times as
     // long (three runs of the bench).
     pub error: usize,
@@ -63,8 +63,7 @@ fn refuse_at(s: State, e: Error, place: usize) -> State
         left: s.left,
         keyed: s.keyed,
         names: s.names,
-        size: s.size,
-        place,
+        size: place,
         error: e.code() as usize,
     }
 }

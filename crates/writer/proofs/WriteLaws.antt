@@ -143,7 +143,7 @@ module _ (rs : List Row) (bs plan : List ℕ) (rows text capacity : ℕ) (s : St
     all-judged = rw (limit-all few short, ← er, take-length rs) at v
 
     pub answer-refused : (f : Failure) → s .error ≢ 0
-        → ((e : Error) → RowError e → codeOf e ≡ s .error → f ≡ failureBeside e (s .place) (rowBeside (s .error) (s .row)))
+        → ((e : Error) → RowError e → codeOf e ≡ s .error → f ≡ failureBeside e (s .size) (rowBeside (s .error) (s .row)))
         → failed f ≡ counted (writing rs bs capacity)
     answer-refused f n h =
         let r = all-judged .refused n in

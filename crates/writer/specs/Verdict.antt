@@ -11,7 +11,7 @@ use Rattle.rows.specs.Stack.{top-fields}
 
 -- The state before the first of n rows.
 unfoldable pub begun : ℕ → State
-begun n = record { row = 0; end = n; depth = 0; left = top-fields; keyed = 0; names = 0; size = 0; place = 0; error = 0 }
+begun n = record { row = 0; end = n; depth = 0; left = top-fields; keyed = 0; names = 0; size = 0; error = 0 }
 
 -- Where judging the first n rows has come to.
 pub record Judging (text : List ℕ) (rs : List Row) (n : ℕ) (es links st plan : List ℕ) (s : State) : Type 0 where

@@ -25,7 +25,6 @@ fn begin(n: usize) -> State
         keyed: 0,
         names: 0,
         size: 0,
-        place: 0,
         error: 0,
     }
 }

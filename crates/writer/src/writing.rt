@@ -61,10 +61,10 @@ fn row_beside(code: usize, row: usize) -> usize
 // The failure of the row that is refused.
 fn failure_of(s: State) -> Failure
     ensures { λ r. ⌜ ((e : Error) → RowError e → codeOf e ≡ s .error
-        → r ≡ failureBeside e (s .place) (rowBeside (s .error) (s .row))) ⌝ }
+        → r ≡ failureBeside e (s .size) (rowBeside (s .error) (s .row))) ⌝ }
 {
     let error = error_of(s.error);
-    Failure::beside(error, s.place, row_beside(s.error, s.row))
+    Failure::beside(error, s.size, row_beside(s.error, s.row))
 }
 
 // Is an item still due?

@@ -1,15 +1,16 @@
 //! Bundles: good, wasteful, damaged, at the limits, and plain noise.
 
 use super::model::{self, canonical, fewest, header, loosened as loosened_items, PAYLOADS};
-use super::{near, Random};
-use crate::{MAX_BYTES, MAX_ENTRIES, MAX_OPEN, MAX_ROWS};
+use super::{near, texts, Random};
+use crate::{Error, MAX_BYTES, MAX_ENTRIES, MAX_OPEN, MAX_ROWS};
 
 /// A mix of all families, mostly small.
 pub fn bundle(random: &mut Random) -> Vec<u8> {
     match random.below(32) {
         0..=6 => valid(random),
         7..=13 => loosened(random),
-        14..=22 => damaged(random),
+        14..=20 => damaged(random),
+        21..=22 => with_bad_text(random).0,
         23..=26 => boundary(random),
         _ => self::random(random),
     }
@@ -28,16 +29,34 @@ pub fn loosened(random: &mut Random) -> Vec<u8> {
     loosened_items(&items, random)
 }
 
-/// A good bundle with a few bytes changed, cut off, inserted, removed or doubled.
-pub fn damaged(random: &mut Random) -> Vec<u8> {
-    let mut bundle = match random.below(2) {
+/// A good bundle, canonical or not.
+fn good(random: &mut Random) -> Vec<u8> {
+    match random.below(2) {
         0 => valid(random),
         _ => loosened(random),
-    };
+    }
+}
+
+/// A good bundle with a few bytes changed, cut off, inserted, removed or doubled.
+pub fn damaged(random: &mut Random) -> Vec<u8> {
+    let mut bundle = good(random);
     for _ in 0..1 + random.below(3) {
         damage(random, &mut bundle);
     }
     bundle
+}
+
+/// A good bundle, then a string or name that is not UTF-8, then noise; with the error of lenient
+/// reading.
+pub fn with_bad_text(random: &mut Random) -> (Vec<u8>, Error) {
+    let mut bundle = good(random);
+    let (content, stop) = texts::bad(random);
+    let code = random.pick(&[4, 5, 6]);
+    bundle.extend(header_of_any_length(random, code, content.len() as u64));
+    let error = Error::at(3, bundle.len() + stop);
+    bundle.extend(content);
+    bundle.extend(self::random(random));
+    (bundle, error)
 }
 
 /// Changes the bytes in one place.

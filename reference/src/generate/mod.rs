@@ -9,6 +9,7 @@ pub mod pairs;
 mod random;
 pub mod streams;
 pub mod tables;
+pub mod texts;
 
 pub use random::Random;
 

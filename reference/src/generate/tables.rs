@@ -3,8 +3,8 @@
 use std::collections::HashMap;
 
 use super::model::{self, canonical, Meaning};
-use super::{capacity, near, Random};
-use crate::{Row, MAX_BYTES, MAX_ENTRIES, MAX_OPEN, MAX_ROWS};
+use super::{capacity, near, texts, Random};
+use crate::{Error, Row, MAX_BYTES, MAX_ENTRIES, MAX_OPEN, MAX_ROWS};
 
 /// What `write` is called with.
 #[derive(Clone, Debug)]
@@ -34,6 +34,7 @@ pub fn table(random: &mut Random) -> Table {
     match random.below(16) {
         0..=4 => good(random),
         5..=7 => with_bad_row(random),
+        8 => with_bad_text(random).0,
         _ => random.pick(&families)(random),
     }
 }
@@ -191,6 +192,29 @@ fn not_utf8(random: &mut Random) -> Table {
         }
     }
     table
+}
+
+/// A good table into which a row is put whose content is not UTF-8, and the error for it.
+pub fn with_bad_text(random: &mut Random) -> (Table, Error) {
+    let mut table = good(random);
+    let number = random.below(table.rows.len() + 1);
+    let is_after_key = number > 0 && table.rows[number - 1].kind == 11;
+    let kinds = if is_after_key {
+        [9, 10, 10]
+    } else {
+        [9, 10, 11]
+    };
+    let (content, stop) = texts::bad(random);
+    let row = Row {
+        kind: random.pick(&kinds),
+        number: content.len() as u64,
+        start: table.text.len(),
+    };
+    table.rows.insert(number, row);
+    table.text.extend(content);
+    // Past the content's end is what a character that is cut short lacks.
+    table.text.extend([0x80; 3]);
+    (table, Error::at(3, row.start + stop).in_row(number))
 }
 
 /// Symbols that differ, from the index `from` on.

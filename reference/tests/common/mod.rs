@@ -37,7 +37,7 @@ pub fn row(kind: u8, number: u64, start: usize) -> Row {
 }
 
 pub fn error(number: u8, place: usize) -> Error {
-    Error { number, place }
+    Error::at(number, place)
 }
 
 pub fn counts(rows: usize, entries: usize, fields: usize) -> Counts {
@@ -75,6 +75,19 @@ pub fn lenient(bytes: &[u8]) -> Result<(Vec<Row>, Counts), Error> {
 
 pub fn strict(bytes: &[u8]) -> Result<(Vec<Row>, Counts), Error> {
     read(bytes, Mode::Strict)
+}
+
+/// Where the item with a bad text begins: it is cut where the bytes end at the place of the error,
+/// or before that where the place is its end.
+pub fn lead_of_bad_text(bundle: &[u8], mode: Mode, found: Error) -> usize {
+    let end = match read(&bundle[..found.place], mode) {
+        Err(error) if error == found => found.place - 1,
+        _ => found.place,
+    };
+    match read(&bundle[..end], mode) {
+        Err(cut) if cut.number == 2 && cut.place < end => cut.place,
+        other => panic!("{other:?} for a text that is cut: {bundle:02X?}"),
+    }
 }
 
 /// Hands out a buffer and takes back the bytes that a call says it has written there.
