@@ -1,10 +1,11 @@
 -- Runs of ASCII, byte by byte, and what one says of UTF-8 and of the local rule. Assumes nothing.
-use mathlib.Core.Path.{_≡_, refl, _∙_}
+use mathlib.Core.Path.{_≡_, refl, sym, _∙_}
 use mathlib.Core.Bool.{Bool, true, false, _&&_}
 use mathlib.Core.List.{List, [], _∷_}
-use Prim.Native.Nat.{ℕ, suc, _+_, _-_, _*_, _≤_, _<_}
+use Prim.Native.Nat.{ℕ, zero, suc, _+_, _-_, _*_, _≤_, _<_}
 use native.Mathlib.Omega.{arith}
-use lib.ListN.{length, getD}
+use native.Mathlib.Numerals.{add-one}
+use lib.ListN.{length, drop, getD}
 use lib.Dec.{ltb}
 use borrow.Author.Tests.{ltb-true}
 use Rattle.format.specs.Choice.{pick}
@@ -12,6 +13,7 @@ use Rattle.format.specs.Utf8.{isNone, leads, stop, stopAfter, utf8}
 use Rattle.format.proofs.Utf8.{dueAfter, fits, good-step}
 use Rattle.format.proofs.Tests.{clash, leb-yes, leb-no}
 use Rattle.utf8.specs.Local.{due, passes, passesAt, Passing, Ascii}
+use Rattle.utf8.proofs.LeadBytes.{lead}
 use Rattle.utf8.proofs.Ranges.{one-more, joined}
 
 pub ascii-more : (s : List ℕ) (a j : ℕ) (b : Bool) → (b ≡ true → Ascii s a (a + j)) → b
@@ -57,5 +59,15 @@ module _ (s : List ℕ) where
         leb-no {a = 0xf5} {b = getD s (i + 3) 0} (omega arith),
       )
 
-  pub ascii-on : (i w : ℕ) → Ascii s 0 (i + 3) → Ascii s (i + 3) (i + 3 + w) → Ascii s 0 (i + w + 3)
-  ascii-on i w f g k l u = joined (λ k. getD s k 0 < 0x80) 0 (i + 3) (i + 3) (i + 3 + w) (omega arith) f g k l (omega arith)
+  -- one run after another
+  pub ascii-on : (a i e : ℕ) → Ascii s a i → Ascii s i e → Ascii s a e
+  ascii-on a i e f g = joined (λ k. getD s k 0 < 0x80) a i i e (omega arith) f g
+
+  -- a run at the front leaves the place to what comes after it
+  pub ascii-stop : (n : ℕ) → n ≤ length s → Ascii s 0 n → stop s ≡ stopAfter 0 n (drop n s)
+  unfolding stop
+  ascii-stop zero l f = refl
+  ascii-stop (suc n) l f =
+      let b = ascii-leads (getD s n 0) (f n (omega arith) (omega arith)) in
+      ascii-stop n (omega arith) (λ i a u. f i a (omega arith))
+      ∙ rw (← add-one n) (lead s n (omega arith) 0 0 refl (sym b) (λ e. omega arith))

@@ -15,14 +15,14 @@ impl Ends {
 
     pub const MAX_SHORT: usize = 2 * Ends::MAX;
 
-    const STEP: usize = 64;
+    pub const STEP: usize = 64;
     // With what stands before the first window.
     const STEP_BYTES: usize = Ends::STEP + Window::BEFORE;
 }
 
 // Are the n bytes from a on ASCII below 0x7f? Callers know n, so that this becomes vector code; the test of the top
 // bit alone becomes slower code, so 0x7f is left to those that look closer.
-fn ascii_at(s: &[u8], a: usize, n: usize) -> bool
+pub fn ascii_at(s: &[u8], a: usize, n: usize) -> bool
     requires { ⌜ a + n ≤ length (now s) ⌝ }
     ensures { λ r. ⌜ (r ≡ true → Ascii (now (s .entry)) a (a + n)) ⌝ }
 {

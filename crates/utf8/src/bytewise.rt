@@ -1,7 +1,11 @@
 // UTF-8 byte by byte: for a text with no room for a block, and for the place at which a text stops being good.
 ghost use mathlib.Core.Path.{_≡_};
-ghost use Rattle.format.specs.Utf8.{badAt, leads, stop, utf8};
-ghost use Rattle.utf8.specs.Local.{stopOf};
+ghost use Prim.Native.Nat.{_≤_};
+ghost use lib.ListN.{length};
+ghost use Rattle.format.specs.Utf8.{badAt, leads, orZero, stop, utf8};
+ghost use Rattle.utf8.specs.Local.{Ascii, stopOf};
+use crate::ascii::Ends;
+use crate::ascii::ascii_at;
 
 // The place at which a text stops being good.
 pub enum Stop {
@@ -31,12 +35,13 @@ fn leads(b: u8) -> usize
     4
 }
 
-// Byte by byte, with a count of the continuation bytes that are due.
-fn scan(s: &[u8]) -> Stop
+// Byte by byte, after ASCII, with a count of the continuation bytes that are due.
+fn scan(s: &[u8], from: usize) -> Stop
+    requires { ⌜ (from ≤ length (now s)) × Ascii (now s) 0 from ⌝ }
     ensures { λ r. ⌜ stopOf r ≡ stop (now (s .entry)) ⌝ }
 {
     let mut k: usize = 0;
-    let mut i = 0;
+    let mut i = from;
     while i < s.len() {
         let at = i;
         let b = s[at];
@@ -66,18 +71,33 @@ fn scan(s: &[u8]) -> Stop
 pub fn by_bytes(s: &[u8]) -> bool
     ensures { λ r. ⌜ r ≡ utf8 (now (s .entry)) ⌝ }
 {
-    match scan(s) {
+    match scan(s, 0) {
         Stop::Nowhere => true,
         Stop::At(_) => false,
     }
 }
 
-// The place at which a text that is not good stops being good; 0 for one that is.
-pub fn bad_at(s: &[u8]) -> usize
-    ensures { λ r. ⌜ r ≡ badAt (now (s .entry)) ⌝ }
+// The place as a number.
+fn place_of(stop: Stop) -> usize
+    ensures { λ r. ⌜ r ≡ orZero (stopOf stop) ⌝ }
 {
-    match scan(s) {
+    match stop {
         Stop::Nowhere => 0,
         Stop::At(place) => place,
     }
+}
+
+// The place at which a text that is not good stops being good; 0 for one that is. ASCII is passed by steps: the place may be
+// far back.
+pub fn bad_at(s: &[u8]) -> usize
+    ensures { λ r. ⌜ r ≡ badAt (now (s .entry)) ⌝ }
+{
+    let mut i = 0;
+    while Ends::STEP <= s.len() - i {
+        if !ascii_at(s, i, Ends::STEP) {
+            return place_of(scan(s, i));
+        }
+        i += Ends::STEP;
+    }
+    place_of(scan(s, i))
 }

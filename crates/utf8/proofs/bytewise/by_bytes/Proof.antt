@@ -1,12 +1,13 @@
 -- `by_bytes` is UTF-8: there is no place. Assumes nothing.
 use mathlib.Core.Path.{ap}
+use native.Mathlib.Omega.{arith}
 use borrow.Author.Needs.{needs}
 use Rattle.format.specs.Utf8.{isNone, utf8}
 use Rattle.utf8.proofs.bytewise.by_bytes.Statement.{statement}
 use Rattle.utf8.proofs.bytewise.by_bytes.Tie as tie
 
 scan-requires : tie.Need-scan-requires
-scan-requires c κs = search needs
+scan-requires c κs = (omega arith, λ i l u. absurd (omega arith))
 
 enum-told : tie.Need-enum-told
 enum-told c = search needs

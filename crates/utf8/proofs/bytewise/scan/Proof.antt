@@ -5,19 +5,19 @@ use native.Mathlib.Omega.{arith}
 use lib.ListN.{length, drop}
 use borrow.Author.Needs.{needs}
 use Rattle.format.specs.Utf8.{stop, stopAfter}
+use Rattle.utf8.proofs.AsciiRuns.{ascii-stop}
 use Rattle.utf8.proofs.LeadBytes.{lead, no-lead, tail, no-tail, all-done, too-early}
 use Rattle.utf8.proofs.bytewise.scan.Statement.{statement}
 use Rattle.utf8.proofs.bytewise.scan.Tie as tie
 
 abbrev Inv-loop : tie.InvT-loop
-Inv-loop s k₀ i₀ k i = (i ≤ length s) × (stop s ≡ stopAfter k i (drop i s))
+Inv-loop s from k₀ i₀ k i = (i ≤ length s) × (stop s ≡ stopAfter k i (drop i s))
 
 abbrev μ-loop : tie.MeasureT-loop
-μ-loop s k₀ i₀ k i = length s - i
+μ-loop s from k₀ i₀ k i = length s - i
 
 loop-holds : tie.Need-loop-holds Inv-loop μ-loop
-unfolding stop
-loop-holds c = (search needs, refl)
+loop-holds c = let p = c .before .pre in (p .0, ascii-stop _ _ (p .0) (p .1))
 
 shared-slice-read-b : tie.Need-shared-slice-read-b Inv-loop μ-loop
 shared-slice-read-b c = search needs
