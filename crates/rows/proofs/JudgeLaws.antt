@@ -34,7 +34,7 @@ use Rattle.rows.specs.declared.state.State.{State}
 use Rattle.rows.specs.Stack.{bottom, Stands}
 use Rattle.rows.specs.Steps.{refused, valued, keyedBy, namedBy, openedBy}
 use Rattle.encoder.specs.Plan.{Measured}
-use Rattle.rows.specs.Judging.{After, Next, PlainError, Ready, RowError, rowBeside, invalid-row, invalid-utf8, plain, too-deep, too-many-entries, unexpected-key}
+use Rattle.rows.specs.Judging.{After, Next, PlainError, Ready, RowError, failureIn, invalid-row, invalid-utf8, plain, too-deep, too-many-entries, unexpected-key}
 use Rattle.rows.proofs.StackLaws.{opened-length, stands-value, stands-key, stands-open}
 use Rattle.encoder.proofs.MeasureLaws.{names-more, measure-plain}
 
@@ -88,17 +88,18 @@ numbered (plain too-deep) z = omega arith
 numbered (plain too-many-entries) z = omega arith
 numbered invalid-utf8 z = omega arith
 
--- beside an error that is not 3 stands no row
-none-beside : {e : Error} → PlainError e → (row : ℕ) → rowBeside (codeOf e) row ≡ 0
-unfolding rowBeside pick
-none-beside invalid-row row = refl
-none-beside unexpected-key row = refl
-none-beside too-deep row = refl
-none-beside too-many-entries row = refl
+-- only 3 is at the size
+at-row : {e : Error} → PlainError e → (s : State) (size : ℕ) → failureIn e (refused s (codeOf e) size) ≡ failure e (s .row)
+unfolding failureIn refused pick
+at-row invalid-row s size = refl
+at-row unexpected-key s size = refl
+at-row too-deep s size = refl
+at-row too-many-entries s size = refl
 
-row-beside : (row : ℕ) → rowBeside (codeOf InvalidUtf8) row ≡ row
-unfolding rowBeside pick
-row-beside row = refl
+at-size : (s : State) (size : ℕ)
+    → failureIn InvalidUtf8 (refused s (codeOf InvalidUtf8) size) ≡ failureBeside InvalidUtf8 size (s .row)
+unfolding failureIn refused pick
+at-size s size = refl
 
 module _ (text : List ℕ) (p : Progress) (r : Row) where
   judged-bad : (f : Failure) → first (rowRules text p r) ≡ some f → (rest : List Row) → judge text p (r ∷ rest) ≡ failed f
@@ -116,11 +117,11 @@ module _ (text : List ℕ) (p : Progress) (r : Row) where
 
 module _ {text es links st plan : List ℕ} {xs : List Row} {s : State} (a : After text es links st plan xs s) (r : Row) where
   -- it is refused, whatever became of the tables
-  refuse-at : {es′ links′ st′ plan′ : List ℕ} {e : Error} (k : RowError e) (place : ℕ) {t : State}
-      → t ≡ refused s (codeOf e) place → first (rowRules text (a .progress) r) ≡ some (failureBeside e place (rowBeside (codeOf e) (s .row)))
+  refuse-at : {es′ links′ st′ plan′ : List ℕ} {e : Error} (k : RowError e) (size : ℕ) {t : State} → t ≡ refused s (codeOf e) size
+      → first (rowRules text (a .progress) r) ≡ some (failureIn e (refused s (codeOf e) size))
       → Next text es′ links′ st′ plan′ xs r s t
   unfolding refused
-  refuse-at {e = e} k place q rules =
+  refuse-at {e = e} k size q rules =
       rw q
       (record {
         taken = λ z. absurd (numbered k z);
@@ -137,21 +138,20 @@ module _ {text es links st plan : List ℕ} {xs : List Row} {s : State} (a : Aft
 
   -- at its number
   pub refuse-next : {es′ links′ st′ plan′ : List ℕ} {e : Error} (k : PlainError e) {t : State}
-      → t ≡ refused s (codeOf e) (s .row) → first (rowRules text (a .progress) r) ≡ some (failure e (a .progress .row))
+      → t ≡ refused s (codeOf e) (s .size) → first (rowRules text (a .progress) r) ≡ some (failure e (a .progress .row))
       → Next text es′ links′ st′ plan′ xs r s t
   refuse-next {e = e} k q rules =
-      refuse-at (plain k) (s .row) q
-      (rules ∙ ap (λ (n : ℕ). some (failure e n)) (a .row)
-      ∙ ap (λ (n : ℕ). some (failureBeside e (s .row) n)) (sym (none-beside k (s .row))))
+      refuse-at (plain k) (s .size) q (rules ∙ ap some (ap (failure e) (a .row) ∙ sym (at-row k s (s .size))))
 
   -- for a text that is not UTF-8, at an offset in the text
   pub refuse-text-next : {es′ links′ st′ plan′ part : List ℕ} {t : State} → part ≡ contentOf text r
       → t ≡ refused s (codeOf InvalidUtf8) (r .start + badAt part)
       → first (rowRules text (a .progress) r) ≡ bad-text text r (a .progress .row) → Next text es′ links′ st′ plan′ xs r s t
   refuse-text-next e q rules =
-      refuse-at invalid-utf8 (r .start + badAt (contentOf text r))
+      let at = r .start + badAt (contentOf text r) in
+      refuse-at invalid-utf8 at
       (q ∙ ap (λ (bs : List ℕ). refused s (codeOf InvalidUtf8) (r .start + badAt bs)) e)
-      (rules ∙ ap (bad-text text r) (a .row ∙ sym (row-beside (s .row))))
+      (rules ∙ ap (bad-text text r) (a .row) ∙ ap some (sym (at-size s at)))
 
   -- it is taken
   pub take-next : {es′ links′ st′ plan′ : List ℕ} (t : State) → first (rowRules text (a .progress) r) ≡ none

@@ -7,10 +7,11 @@ use lib.Dec.{eqb}
 use lib.ListN.{length}
 use Rattle.format.specs.declared.row.Row.{Row}
 use Rattle.format.specs.declared.error.Error.{Error}
+use Rattle.format.specs.declared.failure.Failure.{Failure}
 use Rattle.format.specs.declared.error.Error.the-variants.{InvalidRow, InvalidUtf8, TooDeep, TooManyEntries, UnexpectedKey}
 use Rattle.format.specs.Error.{codeOf}
 use Rattle.format.specs.Choice.{pick}
-use Rattle.format.specs.Answer.{Answer, failed, failureBeside}
+use Rattle.format.specs.Answer.{Answer, failed, failure, failureBeside}
 use Rattle.format.specs.Limits.{max-bytes, max-rows, max-depth, max-item}
 use Rattle.format.specs.Names.{namesFrom}
 use Rattle.format.specs.WellFormed.{All}
@@ -21,7 +22,7 @@ use Rattle.rows.specs.Plan.{plan-size}
 use Rattle.rows.specs.Stack.{bottom, Stands}
 use Rattle.encoder.specs.Plan.{Measured}
 
--- The errors that a row by itself can be refused with, at its number or, with that beside, at an offset in the text.
+-- The errors that a row by itself can be refused with, at its number or at an offset in the text.
 pub data PlainError : Error → Type 0 where
   invalid-row : PlainError InvalidRow
   unexpected-key : PlainError UnexpectedKey
@@ -32,16 +33,16 @@ pub data RowError : Error → Type 0 where
   plain : {e : Error} → PlainError e → RowError e
   invalid-utf8 : RowError InvalidUtf8
 
--- The row beside an error's place, by the error's number.
-unfoldable pub rowBeside : ℕ → ℕ → ℕ
-rowBeside e row = pick (eqb e (codeOf InvalidUtf8)) row 0
+-- What a state that has an error's number fails with: at its row; of a text that is not UTF-8 at its size, the row beside.
+unfoldable pub failureIn : Error → State → Failure
+failureIn e s = pick (eqb (s .error) (codeOf InvalidUtf8)) (failureBeside e (s .size) (s .row)) (failure e (s .row))
 
--- Rows are refused with an error, at the place of a state that has its number: that is its size.
+-- Rows are refused with an error, whose number a state has.
 pub record RefusedAs (judgement : Answer Progress) (s : State) : Type 0 where
   pub error : Error
   pub of-row : RowError error
   pub number : codeOf error ≡ s .error
-  pub is : judgement ≡ failed (failureBeside error (s .size) (rowBeside (s .error) (s .row)))
+  pub is : judgement ≡ failed (failureIn error s)
 
 -- The rows xs were taken, and s is the state after them.
 pub record After (text es links st plan : List ℕ) (xs : List Row) (s : State) : Type 0 where

@@ -7,16 +7,16 @@ use Rattle.format.specs.Kind as Kind
 use Rattle.rows.specs.declared.state.State.{State}
 use Rattle.rows.specs.Stack.{closed}
 
--- after an error at a place
+-- after an error, with a size
 unfoldable pub refused : State → ℕ → ℕ → State
-refused s e place = record {
+refused s e size = record {
   row = s .row;
   end = s .row;
   depth = s .depth;
   left = s .left;
   keyed = s .keyed;
   names = s .names;
-  size = place;
+  size = size;
   error = e;
 }
 

@@ -23,9 +23,8 @@ pub struct State {
     pub keyed: usize,
     // different names
     pub names: usize,
-    // bytes of the canonical encoding, or the place of the error: the row's number, or for a text that is not UTF-8 an
-    // offset in the text. With a field of its own for that writing integers took 1.13 times as long, names and boards
-    // 1.03 times (four runs of the bench).
+    // bytes of the canonical encoding, or of a text that is not UTF-8 the offset at which it stops being good. With a
+    // field of its own for that writing names and boards took 1.03 times as long (four runs of the bench).
     pub size: usize,
     // 0, or the number of the error. No `Outcome`: with one, tried unproved, writing boards took 1.08 to 1.12 times as
     // long (three runs of the bench).
@@ -37,11 +36,11 @@ impl State {
     pub const TOP: u64 = Row::MAX_COUNT as u64 + 1;
 }
 
-// A row that is refused, at its number.
+// A row that is refused.
 pub fn refuse(s: State, e: Error) -> State
-    ensures { λ r. ⌜ r ≡ refused s (codeOf e) (s .row) ⌝ }
+    ensures { λ r. ⌜ r ≡ refused s (codeOf e) (s .size) ⌝ }
 {
-    refuse_at(s, e, s.row)
+    refuse_at(s, e, s.size)
 }
 
 // A row whose text, from start on, is not UTF-8: only now the place is looked for.
@@ -53,8 +52,8 @@ pub fn refuse_text(s: State, start: usize, part: &[u8]) -> State
     refuse_at(s, Error::InvalidUtf8, place)
 }
 
-fn refuse_at(s: State, e: Error, place: usize) -> State
-    ensures { λ r. ⌜ r ≡ refused s (codeOf e) place ⌝ }
+fn refuse_at(s: State, e: Error, size: usize) -> State
+    ensures { λ r. ⌜ r ≡ refused s (codeOf e) size ⌝ }
 {
     State {
         row: s.row,
@@ -63,7 +62,7 @@ fn refuse_at(s: State, e: Error, place: usize) -> State
         left: s.left,
         keyed: s.keyed,
         names: s.names,
-        size: place,
+        size,
         error: e.code() as usize,
     }
 }

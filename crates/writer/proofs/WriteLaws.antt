@@ -29,7 +29,7 @@ use Rattle.rows.specs.declared.state.State.{State}
 use Rattle.format.specs.declared.written.Written.{Written}
 use Rattle.encoder.specs.Plan.{Measured}
 use Rattle.writer.specs.Putting.{Putting}
-use Rattle.rows.specs.Judging.{RowError, rowBeside, invalid-row, invalid-utf8, plain, too-deep, too-many-entries, unexpected-key}
+use Rattle.rows.specs.Judging.{RowError, failureIn, invalid-row, invalid-utf8, plain, too-deep, too-many-entries, unexpected-key}
 use Rattle.writer.specs.Verdict.{Passed, Verdict}
 use Rattle.rows.proofs.StackLaws.{opened-length}
 use Rattle.symbols.proofs.ChainLaws.{length-names}
@@ -143,7 +143,7 @@ module _ (rs : List Row) (bs plan : List ℕ) (rows text capacity : ℕ) (s : St
     all-judged = rw (limit-all few short, ← er, take-length rs) at v
 
     pub answer-refused : (f : Failure) → s .error ≢ 0
-        → ((e : Error) → RowError e → codeOf e ≡ s .error → f ≡ failureBeside e (s .size) (rowBeside (s .error) (s .row)))
+        → ((e : Error) → RowError e → codeOf e ≡ s .error → f ≡ failureIn e s)
         → failed f ≡ counted (writing rs bs capacity)
     answer-refused f n h =
         let r = all-judged .refused n in

@@ -7,11 +7,11 @@ ghost use lib.Dec.{eqb, ltb};
 ghost use lib.ListN.{length, take};
 ghost use Rattle.format.specs.declared.row.Row.{Row};
 ghost use Rattle.format.specs.declared.error.Error.{Error};
-ghost use Rattle.format.specs.Answer.{counted, failureBeside};
+ghost use Rattle.format.specs.Answer.{counted};
 ghost use Rattle.format.specs.Error.{codeOf};
 ghost use Rattle.format.specs.Writing.{writing};
 ghost use Rattle.format.specs.Written.{Writes, answerOf};
-ghost use Rattle.rows.specs.Judging.{RowError, rowBeside};
+ghost use Rattle.rows.specs.Judging.{RowError, failureIn};
 ghost use Rattle.writer.specs.Verdict.{Verdict};
 ghost use Rattle.writer.specs.Extent.{limitOf, rowsIn};
 use crate::judging::judge;
@@ -51,20 +51,15 @@ fn error_of(code: usize) -> Error
     }
 }
 
-// The row beside an error's place, which is an offset in the text only where that is not UTF-8.
-fn row_beside(code: usize, row: usize) -> usize
-    ensures { λ r. ⌜ r ≡ rowBeside code row ⌝ }
-{
-    if code == Error::InvalidUtf8.code() as usize { row } else { 0 }
-}
-
-// The failure of the row that is refused.
+// The failure of the row that is refused: at its number, or at the byte of its text that is wrong.
 fn failure_of(s: State) -> Failure
-    ensures { λ r. ⌜ ((e : Error) → RowError e → codeOf e ≡ s .error
-        → r ≡ failureBeside e (s .size) (rowBeside (s .error) (s .row))) ⌝ }
+    ensures { λ r. ⌜ ((e : Error) → RowError e → codeOf e ≡ s .error → r ≡ failureIn e s) ⌝ }
 {
     let error = error_of(s.error);
-    Failure::beside(error, s.size, row_beside(s.error, s.row))
+    if s.error == Error::InvalidUtf8.code() as usize {
+        return Failure::beside(error, s.size, s.row);
+    }
+    Failure::new(error, s.row)
 }
 
 // Is an item still due?
