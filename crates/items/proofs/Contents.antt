@@ -25,7 +25,7 @@ use Rattle.symbols.specs.Entries.{entriesOf, partOf}
 use Rattle.symbols.proofs.Entries.{length-entries}
 use Rattle.items.specs.declared.item.Out.{Out}
 use Rattle.items.specs.declared.item.Out.the-variants as out
-use Rattle.items.specs.Judging.{Fair, Stands, Moves, Goes, Judged, Case, Body, Name, isKnown, badTextIn, freshOf, Entered, known, full, entered, rowed}
+use Rattle.items.specs.Judging.{Fair, Stands, Moves, Goes, Judged, Case, Body, Name, isKnown, stopIn, freshOf, Entered, known, full, entered, rowed}
 use Rattle.items.proofs.Ladder.{later, to-later, not-key, is-key, not-container, not-name, is-name}
 use Rattle.items.proofs.Flat.{ended-keyed, moved-key, moved-value}
 
@@ -89,8 +89,8 @@ module _ {s es : List ℕ} {at names keyed next : ℕ} {h : Header} {o : Options
       uncut = let g : h .payload ≤ length (drop next s) = omega (arith, length-drop next s) in ltb-no g
 
       pub content-text : isText (x .item) && not (utf8 (x .item .content)) ≡ true
-          → Judged o s es names a (headed o a (some h) (drop at s)) (badTextIn s next (next + p))
-      unfolding isContent
+          → Judged o s es names a (headed o a (some h) (drop at s)) (out.BadText next (next + p))
+      unfolding isContent stopIn
       content-text e =
           let n : a .at + h .size ≡ next = omega (arith, cs .stands .offset, cs .size) in
           at-later ∙ pick-no _ _ not-again ∙ pick-no _ _ not-box ∙ pick-no _ _ uncut ∙ pick-yes _ _ e ∙ rw (n, part-size next p)

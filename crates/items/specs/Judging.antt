@@ -45,10 +45,14 @@ pub record Moved (strict : Bool) (s es links : List ℕ) (at next names : ℕ) :
   pub within : next ≤ length s
   pub fair : Fair strict s es links names
 
+-- The offset at which a text, from one offset to another, stops being good.
+unfoldable pub stopIn : List ℕ → ℕ → ℕ → ℕ
+stopIn s i e = i + badAt (take (e - i) (drop i s))
+
 -- What the code needs of an answer.
 abbrev pub Moves : Bool → List ℕ → List ℕ → List ℕ → ℕ → ℕ → ℕ → Out → Type 0
 Moves strict s es links at names depth (out.Bad e) = Unit
-Moves strict s es links at names depth (out.BadText i) = Unit
+Moves strict s es links at names depth (out.BadText i e) = (i ≤ e) × (e ≤ length s)
 Moves strict s es links at names depth (out.Value u) = Moved strict s es links at u names
 Moves strict s es links at names depth (out.Key u) = Moved strict s es links at u names
 Moves strict s es links at names depth (out.NewSymbol u) = Moved strict s es links at u (names + 1)
@@ -72,7 +76,7 @@ pub record Goes (o : Options) (s es : List ℕ) (at names keyed : ℕ) (p : Plac
 
 abbrev pub Judged : Options → List ℕ → List ℕ → ℕ → State → Answer State → Out → Type 0
 Judged o s es names a r (out.Bad e) = r ≡ fail e (a .at)
-Judged o s es names a r (out.BadText i) = r ≡ fail InvalidUtf8 i
+Judged o s es names a r (out.BadText i e) = r ≡ fail InvalidUtf8 (stopIn s i e)
 Judged o s es names a r (out.Value u) = Goes o s es u names 0 (ended (a .place .opened) (a .place .fields)) a r
 Judged o s es names a r (out.Key u) = Goes o s es u names 1 (spot (a .place .opened) true (a .place .fields)) a r
 Judged o s es names a r (out.NewSymbol u) = Goes o s es u (names + 1) 0 (ended (a .place .opened) (a .place .fields)) a r
@@ -100,10 +104,6 @@ pub record Name (h : Header) : Type 0 where
   pub form : formOf h ≡ content (h .code + Kind.bytes)
   pub high : Code.symbol ≤ h .code
   pub last : h .code ≤ Code.key
-
--- The text from one offset to another, which is not UTF-8.
-abbrev pub badTextIn : List ℕ → ℕ → ℕ → Out
-badTextIn s next e = out.BadText (next + badAt (take (e - next) (drop next s)))
 
 -- ---- a name in full
 

@@ -14,12 +14,12 @@ use Rattle.format.specs.Reading.{Options, State}
 use Rattle.format.proofs.Tests.{leb-yes, leb-no, pick-yes, pick-no}
 use Rattle.items.specs.declared.item.Out.{Out}
 use Rattle.items.specs.declared.item.Out.the-variants as out
-use Rattle.items.specs.Judging.{Stands, spot, rowed, Goes, Judged}
+use Rattle.items.specs.Judging.{Stands, spot, rowed, stopIn, Goes, Judged}
 
 -- What an item comes to where there is no row for it.
 abbrev pub rowlessOf : Out → Out
 rowlessOf (out.Bad e) = out.Bad e
-rowlessOf (out.BadText i) = out.BadText i
+rowlessOf (out.BadText i e) = out.BadText i e
 rowlessOf (out.Value u) = out.Bad TooManyRows
 rowlessOf (out.Key u) = out.Bad TooManyRows
 rowlessOf (out.NewSymbol u) = out.Bad TooManyRows
@@ -36,7 +36,7 @@ pub record Taken (o : Options) (s es : List ℕ) (at names keyed rows : ℕ) (p 
 
 abbrev pub Takes : Options → List ℕ → List ℕ → ℕ → ℕ → State → Answer State → Out → Type 0
 Takes o s es names rows a r (out.Bad e) = r ≡ fail e (a .at)
-Takes o s es names rows a r (out.BadText i) = r ≡ fail InvalidUtf8 i
+Takes o s es names rows a r (out.BadText i e) = r ≡ fail InvalidUtf8 (stopIn s i e)
 Takes o s es names rows a r (out.Value u) = Taken o s es u names 0 (rows - 1) (ended (a .place .opened) (a .place .fields)) r
 Takes o s es names rows a r (out.Key u) = Taken o s es u names 1 (rows - 1) (spot (a .place .opened) true (a .place .fields)) r
 Takes o s es names rows a r (out.NewSymbol u) = Taken o s es u (names + 1) 0 (rows - 1) (ended (a .place .opened) (a .place .fields)) r
@@ -68,7 +68,7 @@ module _ (o : Options) (a : State) (rows : ℕ) (e : length (a .found) + rows �
 
     pub takes : (names : ℕ) (x : Out) → rows ≢ 0 → Judged o s es names a r x → Takes o s es names rows a r x
     takes names (out.Bad e) n j = j
-    takes names (out.BadText i) n j = j
+    takes names (out.BadText i e) n j = j
     takes names (out.Value u) n j = taken n j
     takes names (out.Key u) n j = taken n j
     takes names (out.NewSymbol u) n j = taken n j
@@ -77,7 +77,7 @@ module _ (o : Options) (a : State) (rows : ℕ) (e : length (a .found) + rows �
 
     pub takes-none : (names : ℕ) (x : Out) → rows ≡ 0 → Judged o s es names a r x → Takes o s es names rows a r (rowlessOf x)
     takes-none names (out.Bad e) z j = j
-    takes-none names (out.BadText i) z j = j
+    takes-none names (out.BadText i e) z j = j
     takes-none names (out.Value u) z j = refused z j
     takes-none names (out.Key u) z j = refused z j
     takes-none names (out.NewSymbol u) z j = refused z j

@@ -22,7 +22,7 @@ use Rattle.items.specs.declared.item.Out.the-variants as out
 use Rattle.reader.specs.declared.fields.Cursor.{Cursor}
 use Rattle.reader.specs.declared.fields.Step.{Step}
 use Rattle.reader.specs.declared.fields.Step.the-variants as step
-use Rattle.items.specs.Judging.{Fair, Stands, Moved, Judged, spot}
+use Rattle.items.specs.Judging.{Fair, Stands, Moved, Judged, spot, stopIn}
 use Rattle.reader.specs.Lanes.{Lane, Leads, Resumes}
 use Rattle.reader.proofs.LastRule.{rowlessOf, Taken, Takes, takes, takes-none}
 
@@ -98,19 +98,21 @@ module _ {o : Options} {s es : List ℕ} {t : Cursor} {p : Place} {a : State} (l
       (sym (lead .place)) deep in
       subst (λ (x : ℕ). Judged o s es′ (t .names) from (item o from (drop x s)) r) (sym (lead .stands .offset)) (one from (lead .stands) e)
 
-  stops-at : {f : Failure} (k : Error) (p : ℕ) → f ≡ failure k p → this ≡ fail k p → run o a 0 (drop (a .at) s) ≡ failed f
+  stops-at : (k : Error) (p : ℕ) → this ≡ fail k p → run o a 0 (drop (a .at) s) ≡ fail k p
   unfolding fail
-  stops-at k p g j = lead .is ∙ run-failed o from s (omega (arith, lead .stands .offset)) j ∙ ap failed (sym g)
+  stops-at k p j = lead .is ∙ run-failed o from s (omega (arith, lead .stands .offset)) j
 
-  stops : {f : Failure} (k : Error) → f ≡ failure k (t .at) → this ≡ fail k (from .at) → run o a 0 (drop (a .at) s) ≡ failed f
-  stops k g j = stops-at k (from .at) (g ∙ ap (failure k) (sym (lead .stands .offset))) j
+  stops : {f : Failure} (k : Error) → f ≡ failure k (t .at) → this ≡ fail k (from .at)
+      → run o a 0 (drop (a .at) s) ≡ failed f
+  unfolding fail
+  stops k g j = stops-at k (from .at) j ∙ ap (λ (p : ℕ). failed (failure k p)) (lead .stands .offset) ∙ ap failed (sym g)
 
   pub turn-bad : {f : Failure} (k : Error) → f ≡ failure k (t .at) → r ≡ out.Bad k → run o a 0 (drop (a .at) s) ≡ failed f
   turn-bad k g e = stops k g (subst (Judged o s es′ (t .names) from this) e judged)
 
   -- a text that is not UTF-8
-  pub turn-bad-text : {f : Failure} (i : ℕ) → f ≡ failure InvalidUtf8 i → r ≡ out.BadText i → run o a 0 (drop (a .at) s) ≡ failed f
-  turn-bad-text i g e = stops-at InvalidUtf8 i g (subst (Judged o s es′ (t .names) from this) e judged)
+  pub turn-bad-text : (i u : ℕ) → r ≡ out.BadText i u → run o a 0 (drop (a .at) s) ≡ fail InvalidUtf8 (stopIn s i u)
+  turn-bad-text i u e = stops-at InvalidUtf8 (stopIn s i u) (subst (Judged o s es′ (t .names) from this) e judged)
 
   -- an item that is no error, and no row for it
   pub turn-full : {f : Failure} → f ≡ failure TooManyRows (t .at) → (x : Out) → r ≡ x
@@ -149,6 +151,10 @@ module _ {o : Options} {s es : List ℕ} {t : Cursor} {p : Place} {a : State} (l
     pub held-bad : (f : Failure) → q ≡ step.Bad f → run o a 0 (drop (a .at) s) ≡ failed f
     held-bad f g = held .is ∙ subst (λ (v : Step). Resumes o s es″ (inside (p .opened) (p .fields)) (held .next) v) g resumed
 
+    pub held-bad-text : (i w : ℕ) → q ≡ step.BadText i w → run o a 0 (drop (a .at) s) ≡ fail InvalidUtf8 (stopIn s i w)
+    held-bad-text i w g =
+        held .is ∙ subst (λ (v : Step). Resumes o s es″ (inside (p .opened) (p .fields)) (held .next) v) g resumed
+
     -- the bytes end inside a container
     pub held-end : {f : Failure} (left : ℕ) (v : Cursor) → f ≡ failure Truncated (v .at) → q ≡ step.End left v
         → 0 < left → length s ≤ v .at → run o a 0 (drop (a .at) s) ≡ failed f
@@ -184,8 +190,8 @@ module _ {o : Options} {s es : List ℕ} {t : Cursor} {a : State} (Q : ℕ → B
   pub field-bad : {f : Failure} (k : Error) → f ≡ failure k (t .at) → r ≡ out.Bad k → run o a 0 (drop (a .at) s) ≡ failed f
   field-bad k g e = turn-bad lead here es′ d deep r one k g e
 
-  pub field-bad-text : {f : Failure} (i : ℕ) → f ≡ failure InvalidUtf8 i → r ≡ out.BadText i → run o a 0 (drop (a .at) s) ≡ failed f
-  field-bad-text i g e = turn-bad-text lead here es′ d deep r one i g e
+  pub field-bad-text : (i u : ℕ) → r ≡ out.BadText i u → run o a 0 (drop (a .at) s) ≡ fail InvalidUtf8 (stopIn s i u)
+  field-bad-text i u e = turn-bad-text lead here es′ d deep r one i u e
 
   pub field-full : {f : Failure} → f ≡ failure TooManyRows (t .at) → (x : Out) → r ≡ x
       → rowlessOf x ≡ out.Bad TooManyRows → t .rows ≡ 0 → run o a 0 (drop (a .at) s) ≡ failed f
@@ -214,6 +220,9 @@ module _ {o : Options} {s es : List ℕ} {t : Cursor} {a : State} (Q : ℕ → B
       (es″ : List ℕ) (q : Step) (all : Resumed o s es′ es″ u (t .names) (t .rows - 1) (d - 1) (c .0) q) where
     pub field-held-bad : (f : Failure) → q ≡ step.Bad f → run o a 0 (drop (a .at) s) ≡ failed f
     field-held-bad f g = held-bad lead here es′ d deep r one z c u e room some es″ q all f g
+
+    pub field-held-bad-text : (i w : ℕ) → q ≡ step.BadText i w → run o a 0 (drop (a .at) s) ≡ fail InvalidUtf8 (stopIn s i w)
+    field-held-bad-text i w g = held-bad-text lead here es′ d deep r one z c u e room some es″ q all i w g
 
     pub field-held-end : {f : Failure} (l : ℕ) (v : Cursor) → f ≡ failure Truncated (v .at) → q ≡ step.End l v → 0 < l
         → length s ≤ v .at → run o a 0 (drop (a .at) s) ≡ failed f

@@ -23,9 +23,11 @@ pub struct Cursor {
     pub keyed: usize,
 }
 
-// What fields come to: a failure, the end of the bytes with some of them left, or all are read.
+// What fields come to: a failure, a text that is not UTF-8, from one offset to another, the end of the bytes with some of
+// them left, or all are read.
 pub enum Step {
     Bad(Failure),
+    BadText(usize, usize),
     End(u64, Cursor),
     Good(Cursor),
 }
@@ -69,8 +71,8 @@ pub fn fields(
             Out::Bad(k) => {
                 return Step::Bad(Failure::new(k, at));
             }
-            Out::BadText(place) => {
-                return Step::Bad(Failure::new(Error::InvalidUtf8, place));
+            Out::BadText(start, end) => {
+                return Step::BadText(start, end);
             }
             Out::Value(u) => {
                 if rows == 0 {
@@ -115,6 +117,9 @@ pub fn fields(
                 match fields(s, strict, depth - 1, n, u, names, rows - 1, entries, links) {
                     Step::Bad(f) => {
                         return Step::Bad(f);
+                    }
+                    Step::BadText(start, end) => {
+                        return Step::BadText(start, end);
                     }
                     Step::End(_, v) => {
                         return Step::Bad(Failure::new(Error::Truncated, v.at));

@@ -35,19 +35,15 @@ part-bad-text-end c = search needs
 bad-text-requires : tie.Need-bad-text-requires
 bad-text-requires c κs = search needs
 
-bad-text-in-requires : tie.Need-bad-text-in-requires
-bad-text-in-requires c κs = search needs
-
 returns-2 : tie.Need-returns-2
 returns-2 c =
-    let s = c .before .before .before .before .before .before .before .before in
-    let of′ = c .before .before .before .before .before .before .of in
-    let is = c .bad-text-in .ensures in (
-      λ strict es links at names depth m. rw is tt,
-      λ es o a at names keyed cs. rw is (content-text cs _ (of′ .ensures) _
+    let s = c .before .before .before .before .before .before .before in
+    let of′ = c .before .before .before .before .before .of in (
+      λ strict es links at names depth m. (omega arith, omega arith),
+      λ es o a at names keyed cs. content-text cs _ (of′ .ensures) _
           (s .pre .0 .form) (s .pre .0 .plain) (body-key (s .args .s .now) (s .args .next) _ keyed (s .pre .0))
-          (c .before .before .before .before .before .if1 .left) (body-text (s .args .s .now) (s .args .next) _ (s .pre .0)
-          (c .before .before .bad-text .ensures) ∙ c .before .if2 .taken)),
+          (c .before .before .before .before .if1 .left) (body-text (s .args .s .now) (s .args .next) _ (s .pre .0)
+          (c .before .bad-text .ensures) ∙ c .if2 .taken),
     )
 
 returns-3 : tie.Need-returns-3
@@ -77,6 +73,5 @@ content-spec =
     part-bad-text-start
     part-bad-text-end
     bad-text-requires
-    bad-text-in-requires
     returns-2
     returns-3)

@@ -53,22 +53,18 @@ part-is-utf8-name-end c = search needs
 is-utf8-name-requires : tie.Need-is-utf8-name-requires
 is-utf8-name-requires c κs = search needs
 
-bad-text-in-requires : tie.Need-bad-text-in-requires
-bad-text-in-requires c κs = search needs
-
 returns-3 : tie.Need-returns-3
 unfolding isKey
 returns-3 c =
-    let judged′ = c .before .before in
+    let judged′ = c .before in
     let s = judged′ .before .before .before .before .before .before .before .before in
     let k = rw (judged′ .before .before .before .before .before .before .kind-of .ensures)
-    at (judged′ .before .before .before .before .before .key-after-key .ensures) in
-    let is = c .bad-text-in .ensures in (
-      λ at depth l. rw is tt,
-      λ o a at so cs. rw is (content-text cs _ (judged′ .before .before .before .of .ensures) _
+    at (judged′ .before .before .before .before .before .key-after-key .ensures) in (
+      λ at depth l. (omega arith, omega arith),
+      λ o a at so cs. content-text cs _ (judged′ .before .before .before .of .ensures) _
           (s .pre .0 .form) (name-plain (s .pre .0)) (sym k ∙ judged′ .before .before .before .before .if1 .left)
           (judged′ .before .before .if2 .left)
-          (name-text (s .args .s .now) (s .args .next) _ (s .pre .0) (judged′ .is-utf8-name .ensures) ∙ c .before .if3 .taken)),
+          (name-text (s .args .s .now) (s .args .next) _ (s .pre .0) (judged′ .is-utf8-name .ensures) ∙ c .if3 .taken),
     )
 
 new-name-requires : tie.Need-new-name-requires
@@ -128,7 +124,6 @@ name-spec =
     part-is-utf8-name-start
     part-is-utf8-name-end
     is-utf8-name-requires
-    bad-text-in-requires
     returns-3
     new-name-requires
     returns-4

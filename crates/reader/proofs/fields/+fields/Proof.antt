@@ -11,7 +11,7 @@ use Rattle.format.specs.Place.{Place}
 use Rattle.format.specs.Reading.{Options, State}
 use Rattle.items.specs.Judging.{Stands}
 use Rattle.reader.specs.Lanes.{Lane, Leads}
-use Rattle.reader.proofs.Turns.{cursor, Along, at-place, start-field, field-bad, field-bad-text, field-full, field-value, field-symbol, field-key, field-new-key, field-held-bad, field-held-end, field-held-good, along-value, along-key, along-held}
+use Rattle.reader.proofs.Turns.{cursor, Along, at-place, start-field, field-bad, field-bad-text, field-full, field-value, field-symbol, field-key, field-new-key, field-held-bad, field-held-bad-text, field-held-end, field-held-good, along-value, along-key, along-held}
 use Prim.Native.Nat.{ℕ, _<_}
 use borrow.Fn.Kinds.{In}
 use borrow.Fn.PlainCycle.{Measures, is, falls, and}
@@ -91,31 +91,28 @@ fields-returns-2 t c =
           (λ b. one′ .ensures .1 o b so) _ (c .new .ensures) (c .before .before .k .given .1),
     )
 
-fields-enum-known-place : (t : ℕ) → fields-lts.Need-enum-known-place (claims t) (fields-at t) fields.Post fields-Inv-loop fields-μ-loop
-fields-enum-known-place t c = search needs
-
-fields-new-requires-2 : (t : ℕ) → fields-lts.Need-new-requires-2 (claims t) (fields-at t) fields.Post fields-Inv-loop fields-μ-loop
-fields-new-requires-2 t c κs = search needs
+fields-enum-known-start : (t : ℕ) → fields-lts.Need-enum-known-start (claims t) (fields-at t) fields.Post fields-Inv-loop fields-μ-loop
+fields-enum-known-start t c = search needs
 
 fields-returns-3 : (t : ℕ) → fields-lts.Need-returns-3 (claims t) (fields-at t) fields.Post fields-Inv-loop fields-μ-loop
 fields-returns-3 t c =
-    let one′ = c .before .before .before .before .one in
-    let back = c .before .before .before .before .before in
+    let one′ = c .before .before .before .one in
+    let back = c .before .before .before .before in
     let if1′ = back .before .before .if1 in
     let loop-test′ = back .before .before .before .loop-test in
     let loop′ = back .before .before .before .before .loop in
     let inv = loop′ .inv in (
-      tt,
+      rw (c .before .start .given .1) at (one′ .ensures .0),
       λ Q o a so l h f e.
           field-bad-text Q _ _ (loop′ .left) l (loop-test′ .taken) (inv .0 .most) (inv .1 Q o a so l h f e) (if1′ .left) _ _
-          (λ b. one′ .ensures .1 o b so) _ (c .new2 .ensures) (c .before .before .place .given .1),
+          (λ b. one′ .ensures .1 o b so) _ _ (c .before .start .given .1),
     )
 
 fields-enum-known-u : (t : ℕ) → fields-lts.Need-enum-known-u (claims t) (fields-at t) fields.Post fields-Inv-loop fields-μ-loop
 fields-enum-known-u t c = search needs
 
-fields-new-requires-3 : (t : ℕ) → fields-lts.Need-new-requires-3 (claims t) (fields-at t) fields.Post fields-Inv-loop fields-μ-loop
-fields-new-requires-3 t c κs = search needs
+fields-new-requires-2 : (t : ℕ) → fields-lts.Need-new-requires-2 (claims t) (fields-at t) fields.Post fields-Inv-loop fields-μ-loop
+fields-new-requires-2 t c κs = search needs
 
 fields-returns-4 : (t : ℕ) → fields-lts.Need-returns-4 (claims t) (fields-at t) fields.Post fields-Inv-loop fields-μ-loop
 fields-returns-4 t c =
@@ -128,7 +125,7 @@ fields-returns-4 t c =
       tt,
       λ Q o a so l h f e.
           field-full Q _ _ (loop′ .left) l (loop-test′ .taken) (inv .0 .most) (inv .1 Q o a so l h f e) (if1′ .left) _ _
-          (λ b. one′ .ensures .1 o b so) (c .new3 .ensures) _ (c .before .before .before .u .given .1) refl (c .before .if2 .taken),
+          (λ b. one′ .ensures .1 o b so) (c .new2 .ensures) _ (c .before .before .before .u .given .1) refl (c .before .if2 .taken),
     )
 
 fields-sub-rows : (t : ℕ) → fields-lts.Need-sub-rows (claims t) (fields-at t) fields.Post fields-Inv-loop fields-μ-loop
@@ -160,8 +157,8 @@ fields-loop-again t c =
 fields-enum-known-u-2 : (t : ℕ) → fields-lts.Need-enum-known-u-2 (claims t) (fields-at t) fields.Post fields-Inv-loop fields-μ-loop
 fields-enum-known-u-2 t c = search needs
 
-fields-new-requires-4 : (t : ℕ) → fields-lts.Need-new-requires-4 (claims t) (fields-at t) fields.Post fields-Inv-loop fields-μ-loop
-fields-new-requires-4 t c κs = search needs
+fields-new-requires-3 : (t : ℕ) → fields-lts.Need-new-requires-3 (claims t) (fields-at t) fields.Post fields-Inv-loop fields-μ-loop
+fields-new-requires-3 t c κs = search needs
 
 fields-returns-5 : (t : ℕ) → fields-lts.Need-returns-5 (claims t) (fields-at t) fields.Post fields-Inv-loop fields-μ-loop
 fields-returns-5 t c =
@@ -174,7 +171,7 @@ fields-returns-5 t c =
       tt,
       λ Q o a so l h f e.
           field-full Q _ _ (loop′ .left) l (loop-test′ .taken) (inv .0 .most) (inv .1 Q o a so l h f e) (if1′ .left) _ _
-          (λ b. one′ .ensures .1 o b so) (c .new4 .ensures) _ (c .before .before .before .u2 .given .1) refl (c .before .if3 .taken),
+          (λ b. one′ .ensures .1 o b so) (c .new3 .ensures) _ (c .before .before .before .u2 .given .1) refl (c .before .if3 .taken),
     )
 
 fields-sub-rows-2 : (t : ℕ) → fields-lts.Need-sub-rows-2 (claims t) (fields-at t) fields.Post fields-Inv-loop fields-μ-loop
@@ -203,8 +200,8 @@ fields-loop-again-2 t c =
 fields-enum-known-u-3 : (t : ℕ) → fields-lts.Need-enum-known-u-3 (claims t) (fields-at t) fields.Post fields-Inv-loop fields-μ-loop
 fields-enum-known-u-3 t c = search needs
 
-fields-new-requires-5 : (t : ℕ) → fields-lts.Need-new-requires-5 (claims t) (fields-at t) fields.Post fields-Inv-loop fields-μ-loop
-fields-new-requires-5 t c κs = search needs
+fields-new-requires-4 : (t : ℕ) → fields-lts.Need-new-requires-4 (claims t) (fields-at t) fields.Post fields-Inv-loop fields-μ-loop
+fields-new-requires-4 t c κs = search needs
 
 fields-returns-6 : (t : ℕ) → fields-lts.Need-returns-6 (claims t) (fields-at t) fields.Post fields-Inv-loop fields-μ-loop
 fields-returns-6 t c =
@@ -217,7 +214,7 @@ fields-returns-6 t c =
       tt,
       λ Q o a so l h f e.
           field-full Q _ _ (loop′ .left) l (loop-test′ .taken) (inv .0 .most) (inv .1 Q o a so l h f e) (if1′ .left) _ _
-          (λ b. one′ .ensures .1 o b so) (c .new5 .ensures) _ (c .before .before .before .u3 .given .1) refl (c .before .if4 .taken),
+          (λ b. one′ .ensures .1 o b so) (c .new4 .ensures) _ (c .before .before .before .u3 .given .1) refl (c .before .if4 .taken),
     )
 
 fields-add-names : (t : ℕ) → fields-lts.Need-add-names (claims t) (fields-at t) fields.Post fields-Inv-loop fields-μ-loop
@@ -254,8 +251,8 @@ fields-loop-again-3 t c =
 fields-enum-known-u-4 : (t : ℕ) → fields-lts.Need-enum-known-u-4 (claims t) (fields-at t) fields.Post fields-Inv-loop fields-μ-loop
 fields-enum-known-u-4 t c = search needs
 
-fields-new-requires-6 : (t : ℕ) → fields-lts.Need-new-requires-6 (claims t) (fields-at t) fields.Post fields-Inv-loop fields-μ-loop
-fields-new-requires-6 t c κs = search needs
+fields-new-requires-5 : (t : ℕ) → fields-lts.Need-new-requires-5 (claims t) (fields-at t) fields.Post fields-Inv-loop fields-μ-loop
+fields-new-requires-5 t c κs = search needs
 
 fields-returns-7 : (t : ℕ) → fields-lts.Need-returns-7 (claims t) (fields-at t) fields.Post fields-Inv-loop fields-μ-loop
 fields-returns-7 t c =
@@ -268,7 +265,7 @@ fields-returns-7 t c =
       tt,
       λ Q o a so l h f e.
           field-full Q _ _ (loop′ .left) l (loop-test′ .taken) (inv .0 .most) (inv .1 Q o a so l h f e) (if1′ .left) _ _
-          (λ b. one′ .ensures .1 o b so) (c .new6 .ensures) _ (c .before .before .before .u4 .given .1) refl (c .before .if5 .taken),
+          (λ b. one′ .ensures .1 o b so) (c .new5 .ensures) _ (c .before .before .before .u4 .given .1) refl (c .before .if5 .taken),
     )
 
 fields-add-names-2 : (t : ℕ) → fields-lts.Need-add-names-2 (claims t) (fields-at t) fields.Post fields-Inv-loop fields-μ-loop
@@ -302,8 +299,8 @@ fields-loop-again-4 t c =
 fields-enum-known-n : (t : ℕ) → fields-lts.Need-enum-known-n (claims t) (fields-at t) fields.Post fields-Inv-loop fields-μ-loop
 fields-enum-known-n t c = search needs
 
-fields-new-requires-7 : (t : ℕ) → fields-lts.Need-new-requires-7 (claims t) (fields-at t) fields.Post fields-Inv-loop fields-μ-loop
-fields-new-requires-7 t c κs = search needs
+fields-new-requires-6 : (t : ℕ) → fields-lts.Need-new-requires-6 (claims t) (fields-at t) fields.Post fields-Inv-loop fields-μ-loop
+fields-new-requires-6 t c κs = search needs
 
 fields-returns-8 : (t : ℕ) → fields-lts.Need-returns-8 (claims t) (fields-at t) fields.Post fields-Inv-loop fields-μ-loop
 fields-returns-8 t c =
@@ -316,7 +313,7 @@ fields-returns-8 t c =
       tt,
       λ Q o a so l h f e.
           field-full Q _ _ (loop′ .left) l (loop-test′ .taken) (inv .0 .most) (inv .1 Q o a so l h f e) (if1′ .left) _ _
-          (λ b. one′ .ensures .1 o b so) (c .new7 .ensures) _ (c .before .before .before .n .given .1) refl (c .before .if6 .taken),
+          (λ b. one′ .ensures .1 o b so) (c .new6 .ensures) _ (c .before .before .before .n .given .1) refl (c .before .if6 .taken),
     )
 
 fields-sub-fields : (t : ℕ) → fields-lts.Need-sub-fields (claims t) (fields-at t) fields.Post fields-Inv-loop fields-μ-loop
@@ -362,14 +359,36 @@ fields-returns-9 t c =
           (g .1) _ _ (λ Q b. c .before .before .before .fields .ensures .1 Q o b so) _ (c .before .f .given .1),
     )
 
-fields-enum-known-v : (t : ℕ) → fields-lts.Need-enum-known-v (claims t) (fields-at t) fields.Post fields-Inv-loop fields-μ-loop
-fields-enum-known-v t c = search needs
-
-fields-new-requires-8 : (t : ℕ) → fields-lts.Need-new-requires-8 (claims t) (fields-at t) fields.Post fields-Inv-loop fields-μ-loop
-fields-new-requires-8 t c κs = search needs
+fields-enum-known-start-2 : (t : ℕ) → fields-lts.Need-enum-known-start-2 (claims t) (fields-at t) fields.Post fields-Inv-loop fields-μ-loop
+fields-enum-known-start-2 t c = search needs
 
 fields-returns-10 : (t : ℕ) → fields-lts.Need-returns-10 (claims t) (fields-at t) fields.Post fields-Inv-loop fields-μ-loop
 fields-returns-10 t c =
+    let back = c .before .before .before .before .before in
+    let if6′ = back .before .if6 in
+    let n′ = back .before .before .before .n in
+    let one′ = back .before .before .before .before .before .one in
+    let back′ = back .before .before .before .before .before in
+    let if1′ = back′ .before .before .before .if1 in
+    let loop-test′ = back′ .before .before .before .before .loop-test in
+    let loop′ = back′ .before .before .before .before .before .loop in
+    let inv = loop′ .inv in
+    let g = rw (n′ .given .1) at (one′ .ensures .0) in (
+      rw (c .before .start2 .given .1) at (c .before .before .before .fields .ensures .0),
+      λ Q o a so l h f e.
+          field-held-bad-text Q _ _ (loop′ .left) l (loop-test′ .taken) (inv .0 .most) (inv .1 Q o a so l h f e) (if1′ .left) _ _
+          (λ b. one′ .ensures .1 o b so) (if6′ .left) _ _ (n′ .given .1) (g .0)
+          (g .1) _ _ (λ Q b. c .before .before .before .fields .ensures .1 Q o b so) _ _ (c .before .start2 .given .1),
+    )
+
+fields-enum-known-v : (t : ℕ) → fields-lts.Need-enum-known-v (claims t) (fields-at t) fields.Post fields-Inv-loop fields-μ-loop
+fields-enum-known-v t c = search needs
+
+fields-new-requires-7 : (t : ℕ) → fields-lts.Need-new-requires-7 (claims t) (fields-at t) fields.Post fields-Inv-loop fields-μ-loop
+fields-new-requires-7 t c κs = search needs
+
+fields-returns-11 : (t : ℕ) → fields-lts.Need-returns-11 (claims t) (fields-at t) fields.Post fields-Inv-loop fields-μ-loop
+fields-returns-11 t c =
     let fields′ = c .before .before .before .before .fields in
     let back = c .before .before .before .before .before in
     let if6′ = back .before .before .if6 in
@@ -387,7 +406,7 @@ fields-returns-10 t c =
       λ Q o a so l h f e.
           field-held-end Q _ _ (loop′ .left) l (loop-test′ .taken) (inv .0 .most) (inv .1 Q o a so l h f e) (if1′ .left) _ _
           (λ b. one′ .ensures .1 o b so) (if6′ .left) _ _ (n′ .given .1) (g .0) (g .1) _ _ (λ Q b. fields′ .ensures .1 Q o b so)
-          _ _ (c .new8 .ensures) (c .before .before .v .given .1) (w .2) (w .1),
+          _ _ (c .new7 .ensures) (c .before .before .v .given .1) (w .2) (w .1),
     )
 
 fields-enum-known-v-2 : (t : ℕ) → fields-lts.Need-enum-known-v-2 (claims t) (fields-at t) fields.Post fields-Inv-loop fields-μ-loop
@@ -425,8 +444,8 @@ fields-loop-again-5 t c =
           (g .1) _ _ (λ Q b. c .before .before .before .fields .ensures .1 Q o b so) _ (c .before .v2 .given .1) (w .3),
     )
 
-fields-returns-11 : (t : ℕ) → fields-lts.Need-returns-11 (claims t) (fields-at t) fields.Post fields-Inv-loop fields-μ-loop
-fields-returns-11 t c =
+fields-returns-12 : (t : ℕ) → fields-lts.Need-returns-12 (claims t) (fields-at t) fields.Post fields-Inv-loop fields-μ-loop
+fields-returns-12 t c =
     let turn = c .before .loop in
     let inv = turn .inv in
     let z : turn .left ≡ 0 = omega arith in (
@@ -447,24 +466,23 @@ pub +fields-spec : {M : Type 1} → statement M
     (fields-enum-known-k t)
     (fields-new-requires t)
     (fields-returns-2 t)
-    (fields-enum-known-place t)
-    (fields-new-requires-2 t)
+    (fields-enum-known-start t)
     (fields-returns-3 t)
     (fields-enum-known-u t)
-    (fields-new-requires-3 t)
+    (fields-new-requires-2 t)
     (fields-returns-4 t)
     (fields-sub-rows t)
     (fields-sub-left t)
     (fields-loop-less t)
     (fields-loop-again t)
     (fields-enum-known-u-2 t)
-    (fields-new-requires-4 t)
+    (fields-new-requires-3 t)
     (fields-returns-5 t)
     (fields-sub-rows-2 t)
     (fields-loop-less-2 t)
     (fields-loop-again-2 t)
     (fields-enum-known-u-3 t)
-    (fields-new-requires-5 t)
+    (fields-new-requires-4 t)
     (fields-returns-6 t)
     (fields-add-names t)
     (fields-sub-rows-3 t)
@@ -472,25 +490,27 @@ pub +fields-spec : {M : Type 1} → statement M
     (fields-loop-less-3 t)
     (fields-loop-again-3 t)
     (fields-enum-known-u-4 t)
-    (fields-new-requires-6 t)
+    (fields-new-requires-5 t)
     (fields-returns-7 t)
     (fields-add-names-2 t)
     (fields-sub-rows-4 t)
     (fields-loop-less-4 t)
     (fields-loop-again-4 t)
     (fields-enum-known-n t)
-    (fields-new-requires-7 t)
+    (fields-new-requires-6 t)
     (fields-returns-8 t)
     (fields-sub-fields t)
     (fields-sub-fields-2 t)
     (fields-fields-requires t)
     (fields-enum-known-f t)
     (fields-returns-9 t)
-    (fields-enum-known-v t)
-    (fields-new-requires-8 t)
+    (fields-enum-known-start-2 t)
     (fields-returns-10 t)
+    (fields-enum-known-v t)
+    (fields-new-requires-7 t)
+    (fields-returns-11 t)
     (fields-enum-known-v-2 t)
     (fields-sub-left-3 t)
     (fields-loop-less-5 t)
     (fields-loop-again-5 t)
-    (fields-returns-11 t)
+    (fields-returns-12 t)
