@@ -7,7 +7,6 @@ use native.Mathlib.Omega.{arith}
 use lib.Dec.{eqb}
 use lib.ListN.{length, drop, replicate}
 use Rattle.format.specs.declared.failure.Failure.{Failure}
-use Rattle.format.specs.declared.error.Error.{Error}
 use Rattle.format.specs.declared.error.Error.the-variants.{TooLong, Truncated}
 use Rattle.format.specs.Limits.{max-bytes, max-rows, max-depth}
 use Rattle.format.specs.Answer.{Answer, fail, failed, good, then}
@@ -67,10 +66,6 @@ module _ (o : Options) (s : List ℕ) where
     pub top-failed : {f : Failure} → run o start 0 (drop (start .at) s) ≡ failed f → failed f ≡ counts o s
     unfolding then
     top-failed {f} e = sym (from-start (failed f) e)
-
-    pub top-fail : (k : Error) (p : ℕ) → run o start 0 (drop (start .at) s) ≡ fail k p → fail k p ≡ counts o s
-    unfolding fail
-    top-fail k p e = top-failed e
 
     module _ {es : List ℕ} {t : Cursor} {f : ℕ} (lead : Leads o s es t (spot [] (eqb (t .keyed) 1) f) start) (l : length s ≤ t .at) where
       at-end : run o start 0 (drop (start .at) s) ≡ ending (lead .next)

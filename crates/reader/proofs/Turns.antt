@@ -111,7 +111,8 @@ module _ {o : Options} {s es : List ℕ} {t : Cursor} {p : Place} {a : State} (l
   turn-bad k g e = stops k g (subst (Judged o s es′ (t .names) from this) e judged)
 
   -- a text that is not UTF-8
-  pub turn-bad-text : (i u : ℕ) → r ≡ out.BadText i u → run o a 0 (drop (a .at) s) ≡ fail InvalidUtf8 (stopIn s i u)
+  pub turn-bad-text : (i u : ℕ) → r ≡ out.BadText i u → run o a 0 (drop (a .at) s) ≡ failed (failure InvalidUtf8 (stopIn s i u))
+  unfolding fail
   turn-bad-text i u e = stops-at InvalidUtf8 (stopIn s i u) (subst (Judged o s es′ (t .names) from this) e judged)
 
   -- an item that is no error, and no row for it
@@ -151,10 +152,6 @@ module _ {o : Options} {s es : List ℕ} {t : Cursor} {p : Place} {a : State} (l
     pub held-bad : (f : Failure) → q ≡ step.Bad f → run o a 0 (drop (a .at) s) ≡ failed f
     held-bad f g = held .is ∙ subst (λ (v : Step). Resumes o s es″ (inside (p .opened) (p .fields)) (held .next) v) g resumed
 
-    pub held-bad-text : (i w : ℕ) → q ≡ step.BadText i w → run o a 0 (drop (a .at) s) ≡ fail InvalidUtf8 (stopIn s i w)
-    held-bad-text i w g =
-        held .is ∙ subst (λ (v : Step). Resumes o s es″ (inside (p .opened) (p .fields)) (held .next) v) g resumed
-
     -- the bytes end inside a container
     pub held-end : {f : Failure} (left : ℕ) (v : Cursor) → f ≡ failure Truncated (v .at) → q ≡ step.End left v
         → 0 < left → length s ≤ v .at → run o a 0 (drop (a .at) s) ≡ failed f
@@ -190,7 +187,7 @@ module _ {o : Options} {s es : List ℕ} {t : Cursor} {a : State} (Q : ℕ → B
   pub field-bad : {f : Failure} (k : Error) → f ≡ failure k (t .at) → r ≡ out.Bad k → run o a 0 (drop (a .at) s) ≡ failed f
   field-bad k g e = turn-bad lead here es′ d deep r one k g e
 
-  pub field-bad-text : (i u : ℕ) → r ≡ out.BadText i u → run o a 0 (drop (a .at) s) ≡ fail InvalidUtf8 (stopIn s i u)
+  pub field-bad-text : (i u : ℕ) → r ≡ out.BadText i u → run o a 0 (drop (a .at) s) ≡ failed (failure InvalidUtf8 (stopIn s i u))
   field-bad-text i u e = turn-bad-text lead here es′ d deep r one i u e
 
   pub field-full : {f : Failure} → f ≡ failure TooManyRows (t .at) → (x : Out) → r ≡ x
@@ -220,9 +217,6 @@ module _ {o : Options} {s es : List ℕ} {t : Cursor} {a : State} (Q : ℕ → B
       (es″ : List ℕ) (q : Step) (all : Resumed o s es′ es″ u (t .names) (t .rows - 1) (d - 1) (c .0) q) where
     pub field-held-bad : (f : Failure) → q ≡ step.Bad f → run o a 0 (drop (a .at) s) ≡ failed f
     field-held-bad f g = held-bad lead here es′ d deep r one z c u e room some es″ q all f g
-
-    pub field-held-bad-text : (i w : ℕ) → q ≡ step.BadText i w → run o a 0 (drop (a .at) s) ≡ fail InvalidUtf8 (stopIn s i w)
-    field-held-bad-text i w g = held-bad-text lead here es′ d deep r one z c u e room some es″ q all i w g
 
     pub field-held-end : {f : Failure} (l : ℕ) (v : Cursor) → f ≡ failure Truncated (v .at) → q ≡ step.End l v → 0 < l
         → length s ≤ v .at → run o a 0 (drop (a .at) s) ≡ failed f

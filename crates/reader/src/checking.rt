@@ -2,12 +2,9 @@
 ghost use mathlib.Core.Path.{_≡_};
 ghost use Prim.Native.Nat.{ℕ, _≤_, min};
 ghost use Rattle.format.specs.declared.error.Mode.the-variants.{Lenient};
-ghost use lib.ListN.{length};
-ghost use Rattle.format.specs.declared.error.Error.the-variants.{InvalidUtf8};
-ghost use Rattle.format.specs.Limits.{max-bytes, max-rows};
+ghost use Rattle.format.specs.Limits.{max-rows};
 ghost use Rattle.format.specs.Answer.{fail};
 ghost use Rattle.format.specs.Reading.{options, counts};
-ghost use Rattle.items.specs.Judging.{stopIn};
 ghost use Rattle.reader.specs.Answers.{answerOf};
 use crate::fields::Step;
 use format::Bundle;
@@ -31,15 +28,6 @@ impl Checked {
     {
         Checked::Failed(Failure::new(error, place))
     }
-}
-
-// A text, from one offset to another, that is not UTF-8: only now the place is looked for.
-fn bad_text(bytes: &[u8], start: usize, end: usize) -> Checked
-    requires { ⌜ (start ≤ end) × (end ≤ length (now bytes)) × (length (now bytes) ≤ max-bytes) ⌝ }
-    ensures { λ r. ⌜ answerOf r ≡ fail InvalidUtf8 (stopIn (now (bytes .entry)) start end) ⌝ }
-{
-    let place = start + utf8::bad_at(&bytes[start..end]);
-    Checked::fail(Error::InvalidUtf8, place)
 }
 
 // How many fields are asked for at the top: more than there are bytes, so that the bytes end first.
@@ -72,7 +60,6 @@ pub fn walk(bytes: &[u8], mode: Mode, most: usize) -> Checked
         &mut links,
     ) {
         Step::Bad(f) => Checked::Failed(f),
-        Step::BadText(start, end) => bad_text(bytes, start, end),
         Step::End(left, u) => {
             if u.keyed == 1 {
                 return Checked::fail(Error::Truncated, u.at);

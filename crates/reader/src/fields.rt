@@ -7,7 +7,7 @@ ghost use Rattle.format.specs.Limits.{max-bytes, max-rows};
 ghost use Rattle.format.specs.Place.{Place};
 ghost use Rattle.format.specs.Reading.{Options, State};
 ghost use Rattle.items.specs.Judging.{Fair, Stands};
-ghost use Rattle.reader.specs.Lanes.{Lane, Went, Resumes};
+ghost use Rattle.reader.specs.Lanes.{Lane, Went, Resumes, badTextIn};
 use format::Error;
 use format::Failure;
 use format::FieldCount;
@@ -23,13 +23,20 @@ pub struct Cursor {
     pub keyed: usize,
 }
 
-// What fields come to: a failure, a text that is not UTF-8, from one offset to another, the end of the bytes with some of
-// them left, or all are read.
+// What fields come to: a failure, the end of the bytes with some of them left, or all are read.
 pub enum Step {
     Bad(Failure),
-    BadText(usize, usize),
     End(u64, Cursor),
     Good(Cursor),
+}
+
+// A text, from one offset to another, that is not UTF-8: only now the place is looked for.
+fn bad_text(s: &[u8], start: usize, end: usize) -> Step
+    requires { ⌜ (start ≤ end) × (end ≤ length (now s)) × (length (now s) ≤ max-bytes) ⌝ }
+    ensures { λ r. ⌜ r ≡ badTextIn (now (s .entry)) start end ⌝ }
+{
+    let place = start + utf8::bad_at(&s[start..end]);
+    Step::Bad(Failure::new(Error::InvalidUtf8, place))
 }
 
 pub fn fields(
@@ -72,7 +79,7 @@ pub fn fields(
                 return Step::Bad(Failure::new(k, at));
             }
             Out::BadText(start, end) => {
-                return Step::BadText(start, end);
+                return bad_text(s, start, end);
             }
             Out::Value(u) => {
                 if rows == 0 {
@@ -117,9 +124,6 @@ pub fn fields(
                 match fields(s, strict, depth - 1, n, u, names, rows - 1, entries, links) {
                     Step::Bad(f) => {
                         return Step::Bad(f);
-                    }
-                    Step::BadText(start, end) => {
-                        return Step::BadText(start, end);
                     }
                     Step::End(_, v) => {
                         return Step::Bad(Failure::new(Error::Truncated, v.at));

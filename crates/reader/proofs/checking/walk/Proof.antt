@@ -5,7 +5,7 @@ use Prim.Native.Nat.{ℕ, _+_, min}
 use Rattle.format.specs.Limits.{max-bytes, max-rows}
 use Rattle.format.specs.Reading.{options, start}
 use Rattle.format.proofs.Tests.{eqb-yes, eqb-no}
-use Rattle.reader.proofs.Tops.{fair-start, stands-start, row-start, outside, outside-lane, top-place, too-long, top-fail, top-failed, top-keyed, top-good}
+use Rattle.reader.proofs.Tops.{fair-start, stands-start, row-start, outside, outside-lane, top-place, too-long, top-failed, top-keyed, top-good}
 use borrow.Author.Needs.{needs}
 use Rattle.reader.proofs.checking.walk.Statement.{statement}
 use Rattle.reader.proofs.checking.walk.Tie as tie
@@ -33,15 +33,6 @@ fields-requires c κs =
 
 enum-known-f : tie.Need-enum-known-f
 enum-known-f c = search needs
-
-enum-known-start : tie.Need-enum-known-start
-enum-known-start c = search needs
-
-bad-text-requires : tie.Need-bad-text-requires
-bad-text-requires c κs =
-    let w = rw (c .before .start .given .1) at (c .before .before .before .fields .ensures .0) in
-    let if1′ = c .before .before .before .before .before .before .before .before .if1 in
-    (w .0, w .1, if1′ .left)
 
 enum-known-left : tie.Need-enum-known-left
 enum-known-left c = search needs
@@ -113,18 +104,6 @@ returns-3 c =
 
 returns-4 : tie.Need-returns-4
 returns-4 c =
-    let back = c .before .before .before .before in
-    let is-strict′ = back .before .before .before .is-strict in
-    let if1′ = back .before .before .before .before .before .if1 in
-    let a = back .before .before .before .before .before .before .before .args in
-    λ n m.
-    let o = options (a .mode) n in
-    let r = rw (c .before .before .start .given .1) at (back .fields .ensures .1 (outside top-fields) o start
-    (sym (is-strict′ .ensures)) (outside-lane top-fields) (stands-start _ _) (row-start o (a .most) m) top-place) in
-    c .bad-text .ensures ∙ top-fail o (a .bytes .now) (if1′ .left) _ _ r
-
-returns-5 : tie.Need-returns-5
-returns-5 c =
     let left′ = c .before .before .before .before .before .left in
     let back = c .before .before .before .before .before in
     let fields′ = back .before .before .fields in
@@ -141,8 +120,8 @@ returns-5 c =
     rw (c .new2 .ensures) (top-good o (a .bytes .now) (if1′ .left) r (w .1) (a .most) m (w .0 .size) (w .0 .few)
     (eqb-no (c .before .before .if2 .left)))
 
-returns-6 : tie.Need-returns-6
-returns-6 c =
+returns-5 : tie.Need-returns-5
+returns-5 c =
     let fields′ = c .before .before .before .before .fields in
     let back = c .before .before .before .before .before in
     let if1′ = back .before .before .before .before .if1 in
@@ -158,8 +137,6 @@ walk-spec =
     is-strict-requires
     fields-requires
     enum-known-f
-    enum-known-start
-    bad-text-requires
     enum-known-left
     fail-requires-2
     returns-2
@@ -170,5 +147,4 @@ walk-spec =
     fail-requires-3
     returns-3
     returns-4
-    returns-5
-    returns-6)
+    returns-5)

@@ -11,7 +11,7 @@ use Rattle.format.specs.Place.{Place}
 use Rattle.format.specs.Reading.{Options, State}
 use Rattle.items.specs.Judging.{Stands}
 use Rattle.reader.specs.Lanes.{Lane, Leads}
-use Rattle.reader.proofs.Turns.{cursor, Along, at-place, start-field, field-bad, field-bad-text, field-full, field-value, field-symbol, field-key, field-new-key, field-held-bad, field-held-bad-text, field-held-end, field-held-good, along-value, along-key, along-held}
+use Rattle.reader.proofs.Turns.{cursor, Along, at-place, start-field, field-bad, field-bad-text, field-full, field-value, field-symbol, field-key, field-new-key, field-held-bad, field-held-end, field-held-good, along-value, along-key, along-held}
 use Prim.Native.Nat.{ℕ, _<_}
 use borrow.Fn.Kinds.{In}
 use borrow.Fn.PlainCycle.{Measures, is, falls, and}
@@ -20,6 +20,7 @@ use Rattle.reader.proofs.fields.fields.Kinds as fields-kinds
 use Rattle.reader.proofs.fields.+fields.Lts-fields as fields-lts
 use Rattle.items.proofs.item.one.Reads as one-reads
 use Rattle.format.proofs.failure.Failure.new.Reads as new-reads
+use Rattle.reader.proofs.fields.bad_text.Reads as bad-text-reads
 use Rattle.reader.proofs.fields.+fields.{statement}
 use Rattle.reader.proofs.fields.+fields.Tie.{close}
 
@@ -33,7 +34,7 @@ abbrev fields-below : ℕ → In 3 fields-kinds.ps
 fields-below t = and 3 fields-kinds.ps (falls 3 fields-kinds.ps _<_ μ-fields t) fields.Pre
 
 abbrev claims : ℕ → fields-lts.Claims
-claims t = (one-reads.Asked, one-reads.Learnt, new-reads.Asked, new-reads.Learnt, fields-below t, fields.Post)
+claims t = (one-reads.Asked, one-reads.Learnt, new-reads.Asked, new-reads.Learnt, bad-text-reads.Asked, bad-text-reads.Learnt, fields-below t, fields.Post)
 
 abbrev fields-Inv-loop : fields-lts.InvT-loop
 fields-Inv-loop s strict depth from known free entries₀ links₀ at₀ names₀ rows₀ keyed₀ left₀ entries links at names rows keyed left =
@@ -94,18 +95,25 @@ fields-returns-2 t c =
 fields-enum-known-start : (t : ℕ) → fields-lts.Need-enum-known-start (claims t) (fields-at t) fields.Post fields-Inv-loop fields-μ-loop
 fields-enum-known-start t c = search needs
 
+fields-bad-text-requires : (t : ℕ) → fields-lts.Need-bad-text-requires (claims t) (fields-at t) fields.Post fields-Inv-loop fields-μ-loop
+fields-bad-text-requires t c κs =
+    let in-bytes = rw (c .before .start .given .1) at (c .before .before .before .one .ensures .0) in
+    let back = c .before .before .before .before .before in
+    (in-bytes .0, in-bytes .1, back .before .before .before .before .before .pre .1 .1)
+
 fields-returns-3 : (t : ℕ) → fields-lts.Need-returns-3 (claims t) (fields-at t) fields.Post fields-Inv-loop fields-μ-loop
 fields-returns-3 t c =
-    let one′ = c .before .before .before .one in
-    let back = c .before .before .before .before in
+    let one′ = c .before .before .before .before .one in
+    let back = c .before .before .before .before .before in
     let if1′ = back .before .before .if1 in
     let loop-test′ = back .before .before .before .loop-test in
     let loop′ = back .before .before .before .before .loop in
-    let inv = loop′ .inv in (
-      rw (c .before .start .given .1) at (one′ .ensures .0),
+    let inv = loop′ .inv in
+    let is = c .bad-text .ensures in (
+      rw is tt,
       λ Q o a so l h f e.
-          field-bad-text Q _ _ (loop′ .left) l (loop-test′ .taken) (inv .0 .most) (inv .1 Q o a so l h f e) (if1′ .left) _ _
-          (λ b. one′ .ensures .1 o b so) _ _ (c .before .start .given .1),
+          rw is (field-bad-text Q _ _ (loop′ .left) l (loop-test′ .taken) (inv .0 .most) (inv .1 Q o a so l h f e) (if1′ .left) _ _
+          (λ b. one′ .ensures .1 o b so) _ _ (c .before .before .start .given .1)),
     )
 
 fields-enum-known-u : (t : ℕ) → fields-lts.Need-enum-known-u (claims t) (fields-at t) fields.Post fields-Inv-loop fields-μ-loop
@@ -359,36 +367,14 @@ fields-returns-9 t c =
           (g .1) _ _ (λ Q b. c .before .before .before .fields .ensures .1 Q o b so) _ (c .before .f .given .1),
     )
 
-fields-enum-known-start-2 : (t : ℕ) → fields-lts.Need-enum-known-start-2 (claims t) (fields-at t) fields.Post fields-Inv-loop fields-μ-loop
-fields-enum-known-start-2 t c = search needs
-
-fields-returns-10 : (t : ℕ) → fields-lts.Need-returns-10 (claims t) (fields-at t) fields.Post fields-Inv-loop fields-μ-loop
-fields-returns-10 t c =
-    let back = c .before .before .before .before .before in
-    let if6′ = back .before .if6 in
-    let n′ = back .before .before .before .n in
-    let one′ = back .before .before .before .before .before .one in
-    let back′ = back .before .before .before .before .before in
-    let if1′ = back′ .before .before .before .if1 in
-    let loop-test′ = back′ .before .before .before .before .loop-test in
-    let loop′ = back′ .before .before .before .before .before .loop in
-    let inv = loop′ .inv in
-    let g = rw (n′ .given .1) at (one′ .ensures .0) in (
-      rw (c .before .start2 .given .1) at (c .before .before .before .fields .ensures .0),
-      λ Q o a so l h f e.
-          field-held-bad-text Q _ _ (loop′ .left) l (loop-test′ .taken) (inv .0 .most) (inv .1 Q o a so l h f e) (if1′ .left) _ _
-          (λ b. one′ .ensures .1 o b so) (if6′ .left) _ _ (n′ .given .1) (g .0)
-          (g .1) _ _ (λ Q b. c .before .before .before .fields .ensures .1 Q o b so) _ _ (c .before .start2 .given .1),
-    )
-
 fields-enum-known-v : (t : ℕ) → fields-lts.Need-enum-known-v (claims t) (fields-at t) fields.Post fields-Inv-loop fields-μ-loop
 fields-enum-known-v t c = search needs
 
 fields-new-requires-7 : (t : ℕ) → fields-lts.Need-new-requires-7 (claims t) (fields-at t) fields.Post fields-Inv-loop fields-μ-loop
 fields-new-requires-7 t c κs = search needs
 
-fields-returns-11 : (t : ℕ) → fields-lts.Need-returns-11 (claims t) (fields-at t) fields.Post fields-Inv-loop fields-μ-loop
-fields-returns-11 t c =
+fields-returns-10 : (t : ℕ) → fields-lts.Need-returns-10 (claims t) (fields-at t) fields.Post fields-Inv-loop fields-μ-loop
+fields-returns-10 t c =
     let fields′ = c .before .before .before .before .fields in
     let back = c .before .before .before .before .before in
     let if6′ = back .before .before .if6 in
@@ -444,8 +430,8 @@ fields-loop-again-5 t c =
           (g .1) _ _ (λ Q b. c .before .before .before .fields .ensures .1 Q o b so) _ (c .before .v2 .given .1) (w .3),
     )
 
-fields-returns-12 : (t : ℕ) → fields-lts.Need-returns-12 (claims t) (fields-at t) fields.Post fields-Inv-loop fields-μ-loop
-fields-returns-12 t c =
+fields-returns-11 : (t : ℕ) → fields-lts.Need-returns-11 (claims t) (fields-at t) fields.Post fields-Inv-loop fields-μ-loop
+fields-returns-11 t c =
     let turn = c .before .loop in
     let inv = turn .inv in
     let z : turn .left ≡ 0 = omega arith in (
@@ -467,6 +453,7 @@ pub +fields-spec : {M : Type 1} → statement M
     (fields-new-requires t)
     (fields-returns-2 t)
     (fields-enum-known-start t)
+    (fields-bad-text-requires t)
     (fields-returns-3 t)
     (fields-enum-known-u t)
     (fields-new-requires-2 t)
@@ -504,13 +491,11 @@ pub +fields-spec : {M : Type 1} → statement M
     (fields-fields-requires t)
     (fields-enum-known-f t)
     (fields-returns-9 t)
-    (fields-enum-known-start-2 t)
-    (fields-returns-10 t)
     (fields-enum-known-v t)
     (fields-new-requires-7 t)
-    (fields-returns-11 t)
+    (fields-returns-10 t)
     (fields-enum-known-v-2 t)
     (fields-sub-left-3 t)
     (fields-loop-less-5 t)
     (fields-loop-again-5 t)
-    (fields-returns-12 t)
+    (fields-returns-11 t)

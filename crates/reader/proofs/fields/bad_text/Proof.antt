@@ -1,13 +1,14 @@
 -- `bad_text` adds the place in the text to its start. Assumes nothing.
-use mathlib.Core.Path.{_∙_}
+use mathlib.Core.Path.{ap, _∙_}
 use Prim.Native.Nat.{_-_}
 use native.Mathlib.Omega.{arith}
 use borrow.Author.Needs.{needs}
 use lib.ListN.{take, drop, length-take}
 use Rattle.format.proofs.Utf8.{bad-within}
 use Rattle.items.specs.Judging.{stopIn}
-use Rattle.reader.proofs.checking.bad_text.Statement.{statement}
-use Rattle.reader.proofs.checking.bad_text.Tie as tie
+use Rattle.reader.specs.declared.fields.Step.the-variants as step
+use Rattle.reader.proofs.fields.bad_text.Statement.{statement}
+use Rattle.reader.proofs.fields.bad_text.Tie as tie
 
 sub-bad-at : tie.Need-sub-bad-at
 sub-bad-at c = search needs
@@ -25,17 +26,17 @@ add-place : tie.Need-add-place
 add-place c =
     let s = c .before .before .before in
     let a = s .args in
-    let rest = drop (a .start) (a .bytes .now) in
+    let rest = drop (a .start) (a .s .now) in
     omega (arith, c .bad-at .ensures, bad-within (take (a .end - a .start) rest), length-take (a .end - a .start) rest, s .pre)
 
-fail-requires : tie.Need-fail-requires
-fail-requires c κs = search needs
+new-requires : tie.Need-new-requires
+new-requires c κs = search needs
 
 returns : tie.Need-returns
 unfolding stopIn
-returns c = c .fail .ensures ∙ rw (c .before .bad-at .ensures)
+returns c = ap step.Bad (c .new .ensures ∙ rw (c .before .bad-at .ensures))
 
 pub bad-text-spec : {M : Type 1} → statement M
 bad-text-spec =
     tie.close
-    (tie.spec sub-bad-at part-bad-at-start part-bad-at-end bad-at-requires add-place fail-requires returns)
+    (tie.spec sub-bad-at part-bad-at-start part-bad-at-end bad-at-requires add-place new-requires returns)
