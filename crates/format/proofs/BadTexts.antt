@@ -38,7 +38,8 @@ use Rattle.format.proofs.Writes.{row-placed}
 by-first {ℓ} : {X : Type ℓ} (r : Rule) (rs : List Rule) {f : Failure} → first (r ∷ rs) ≡ some f
     → (r .applies ≡ true → r .gives ≡ f → X) → (r .applies ≡ false → first rs ≡ some f → X) → X
 unfolding first
-by-first r rs e g h = cases (r .applies) (λ a. g a (some-inj (sym (pick-yes _ _ a) ∙ e))) (λ a. h a (sym (pick-no _ _ a) ∙ e))
+by-first r rs e g h =
+    cases (r .applies) (λ a. g a (some-inj (sym (pick-yes _ _ a) ∙ e))) (λ a. h a (sym (pick-no _ _ a) ∙ e))
 
 no-rule {ℓ} : {X : Type ℓ} {f : Failure} → first [] ≡ some f → X
 unfolding first
@@ -63,14 +64,16 @@ other n q = n (ap codeOf q)
 
 -- The law of some of the rows, from the row of number k on.
 pub record Refused (text : List ℕ) (k : ℕ) (rs : List Row) (f : Failure) : Type 0 where
-  pub bad-text : f .error ≡ InvalidUtf8 → (i : ℕ) × (f .row ≡ k + i) × (r : Row) × (getElem? rs i ≡ some r) × BadRow text r (f .place)
+  pub bad-text : f .error ≡ InvalidUtf8
+      → (i : ℕ) × (f .row ≡ k + i) × (r : Row) × (getElem? rs i ≡ some r) × BadRow text r (f .place)
   pub other : f .error ≢ InvalidUtf8 → f .row ≡ 0
 
 module _ (text : List ℕ) (k : ℕ) (rs : List Row) {f : Failure} where
   plainly : (e : Error) (p : ℕ) → codeOf e ≢ 3 → failure e p ≡ f → Refused text k rs f
   plainly e p n q = subst (Refused text k rs) q (record { bad-text = λ z. absurd (other n z); other = λ _. refl })
 
-  plain-fail : {A : Type 0} (e : Error) (p : ℕ) → codeOf e ≢ 3 → _≡_ {A = Answer A} (fail e p) (failed f) → Refused text k rs f
+  plain-fail : {A : Type 0} (e : Error) (p : ℕ) → codeOf e ≢ 3 → _≡_ {A = Answer A} (fail e p) (failed f)
+      → Refused text k rs f
   unfolding fail
   plain-fail e p n q = plainly e p n (failed-inj q)
 
@@ -104,10 +107,12 @@ row-refused text s r rs e =
     by-first _ _ e (λ _. plain TooManyEntries _ (omega arith)) (λ _ e. no-rule e)))))
 
 -- The first row is refused, or it is taken and one after it is.
-judge-refused : (text : List ℕ) (s : Progress) (rs : List Row) {f : Failure} → judge text s rs ≡ failed f → Refused text (s .row) rs f
+judge-refused : (text : List ℕ) (s : Progress) (rs : List Row) {f : Failure} → judge text s rs ≡ failed f
+    → Refused text (s .row) rs f
 unfolding judge then unless withItem
 judge-refused text s [] e =
-    by-choice (due (s .place)) _ _ e (λ q. plain-fail text (s .row) [] Truncated (s .row) (omega arith) q) (λ q. failed-good (sym q))
+    by-choice (due (s .place)) _ _ e (λ q. plain-fail text (s .row) [] Truncated (s .row) (omega arith) q)
+    (λ q. failed-good (sym q))
 judge-refused text s (r ∷ rs) {f} e =
     go (first (rowRules text s r)) refl e (λ q. judge-refused text (withItem s (itemAt text r)) rs q)
   where
@@ -160,13 +165,21 @@ record BadContent (g : Form) (p : ℕ) (rest : List ℕ) (c : List ℕ) : Type 0
 
 bad-content : (g : Form) (p at : ℕ) (rest : List ℕ) (es : List Found)
     → isContent g && ltb (length rest) p ≡ false
-    → isContent g && isText (orNull (itemOf g p at rest es) .item) && not (utf8 (orNull (itemOf g p at rest es) .item .content)) ≡ true
+    → isContent g && isText (orNull (itemOf g p at rest es) .item)
+    && not (utf8 (orNull (itemOf g p at rest es) .item .content)) ≡ true
     → BadContent g p rest (orNull (itemOf g p at rest es) .item .content)
 unfolding isContent itemOf orNull isText
 bad-content (fixed k n) p at rest es w e = clash e refl
 bad-content (content k) p at rest es w e =
     let (t, u) = is-bad (leb Kind.string k) (utf8 (take p rest)) e in
-    record { kind = k; form = refl; text = leb-true Kind.string k t; whole = ltb-false (length rest) p w; content-is = refl; bad = u }
+    record {
+      kind = k;
+      form = refl;
+      text = leb-true Kind.string k t;
+      whole = ltb-false (length rest) p w;
+      content-is = refl;
+      bad = u;
+    }
 bad-content reference p at rest es w e = clash e refl
 
 unless-failed : {A : Type 0} (a : A) {f : Failure} (q : Option Failure) → unless q a ≡ failed f → q ≡ some f
@@ -175,8 +188,9 @@ unless-failed a none e = failed-good (sym e)
 unless-failed a (some g) e = ap some (failed-inj e)
 
 -- Where bad content is in the whole bytes.
-located : (o : Options) (bs : List ℕ) (s : State) → Passes o bs s → (h : Header) → headerOf (drop (s .at) bs) ≡ some h → {c : List ℕ}
-    → BadContent (formOf h) (h .payload) (drop (h .size) (drop (s .at) bs)) c → BadItem o bs (s .at + h .size + badAt c)
+located : (o : Options) (bs : List ℕ) (s : State) → Passes o bs s → (h : Header) → headerOf (drop (s .at) bs) ≡ some h
+    → {c : List ℕ} → BadContent (formOf h) (h .payload) (drop (h .size) (drop (s .at) bs)) c
+    → BadItem o bs (s .at + h .size + badAt c)
 located o bs s passed h q {c} b =
     let e = drop-drop (h .size) (s .at) bs in
     let size = size-within (drop (s .at) bs) h q in
@@ -203,7 +217,8 @@ module _ (o : Options) (bs : List ℕ) {f : Failure} where
   plain-item : (e : Error) (p : ℕ) → codeOf e ≢ 3 → failure e p ≡ f → RefusedReadingLaw o bs f
   plain-item e p n q = subst (RefusedReadingLaw o bs) q (record { bad-text = λ z. absurd (other n z); row = refl })
 
-  plain-end : {A : Type 0} (e : Error) (p : ℕ) → codeOf e ≢ 3 → _≡_ {A = Answer A} (fail e p) (failed f) → RefusedReadingLaw o bs f
+  plain-end : {A : Type 0} (e : Error) (p : ℕ) → codeOf e ≢ 3 → _≡_ {A = Answer A} (fail e p) (failed f)
+      → RefusedReadingLaw o bs f
   unfolding fail
   plain-end e p n q = plain-item e p n (failed-inj q)
 
@@ -219,7 +234,8 @@ module _ (o : Options) (bs : List ℕ) {f : Failure} where
       by-first _ _ e (λ _. plain-item Truncated _ (omega arith)) (λ w e.
       by-first _ _ e
       (λ a z. subst (RefusedReadingLaw o bs) z (record {
-        bad-text = λ _. located o bs s passed h q (bad-content (formOf h) (h .payload) (s .at + h .size) _ (s .entries) w a);
+        bad-text = λ _.
+            located o bs s passed h q (bad-content (formOf h) (h .payload) (s .at + h .size) _ (s .entries) w a);
         row = refl;
       }))
       (λ _ e.
@@ -243,9 +259,11 @@ module _ (o : Options) (bs : List ℕ) {f : Failure} where
       (λ m. go (item o s (drop (s .at) bs)) refl m (λ t k passed q. run-refused n t k passed q))
     where
       go : (r : Answer State) → item o s (drop (s .at) bs) ≡ r → s .at < length bs
-          → ((t : State) → length bs ≤ t .at + n → Passes o bs t → run o t 0 (drop (t .at) bs) ≡ failed f → RefusedReadingLaw o bs f)
+          → ((t : State) → length bs ≤ t .at + n → Passes o bs t → run o t 0 (drop (t .at) bs) ≡ failed f
+          → RefusedReadingLaw o bs f)
           → RefusedReadingLaw o bs f
-      go (failed g) q m rest = headed-refused s passed (headerOf (drop (s .at) bs)) refl (q ∙ sym (run-failed o s bs m q) ∙ e)
+      go (failed g) q m rest =
+          headed-refused s passed (headerOf (drop (s .at) bs)) refl (q ∙ sym (run-failed o s bs m q) ∙ e)
       go (good t) q m rest =
           rest t (omega (arith, step-forward (item-step (drop (s .at) bs) q))) (next passed q) (sym (run-to o s bs q) ∙ e)
 

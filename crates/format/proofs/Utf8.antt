@@ -25,7 +25,8 @@ unfoldable pub dueAfter : ℕ → ℕ → ℕ
 dueAfter zero b = leads b
 dueAfter (suc k) b = k
 
-stop-step : (k at b : ℕ) (bs : List ℕ) → stopAfter k at (b ∷ bs) ≡ pick (fits k b) (stopAfter (dueAfter k b) (at + 1) bs) (some at)
+stop-step : (k at b : ℕ) (bs : List ℕ)
+    → stopAfter k at (b ∷ bs) ≡ pick (fits k b) (stopAfter (dueAfter k b) (at + 1) bs) (some at)
 unfolding stopAfter fits dueAfter
 stop-step zero at b bs = refl
 stop-step (suc k) at b bs = refl
@@ -129,7 +130,9 @@ stop-stops bs {n} e =
     record {
       bad = stop-bad bs e;
       inside = omega (arith, r .inside);
-      before = let g : Begins (take (r .m) bs) = (r .before .0, stop-good (take (r .m) bs ++ r .before .0) (r .before .1)) in rw q at g;
+      before =
+          let (rest, e) = r .before in
+          let g : Begins (take (r .m) bs) = (rest, stop-good (take (r .m) bs ++ rest) e) in rw q at g;
       there = λ l g. r .there (omega arith) (g .0) (good-stop (take (suc (r .m)) bs ++ g .0) (rw q (g .1)));
     }
 
@@ -142,7 +145,8 @@ begins-front bs m n l g =
 stops-once : (bs : List ℕ) (m n : ℕ) → Stops bs m → Stops bs n → m ≡ n
 stops-once bs m n a b =
     order m n
-    (λ l. order n m (λ h. omega arith) (λ h. absurd (a .there (omega (arith, b .inside)) (begins-front bs (suc m) n h (b .before)))))
+    (λ l. order n m (λ h. omega arith)
+    (λ h. absurd (a .there (omega (arith, b .inside)) (begins-front bs (suc m) n h (b .before)))))
     (λ l. absurd (b .there (omega (arith, a .inside)) (begins-front bs (suc n) m l (a .before))))
 
 stops-stop : (bs : List ℕ) {n : ℕ} → Stops bs n → stop bs ≡ some n

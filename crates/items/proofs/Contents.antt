@@ -93,7 +93,8 @@ module _ {s es : List ℕ} {at names keyed next : ℕ} {h : Header} {o : Options
       unfolding isContent stopIn
       content-text e =
           let n : a .at + h .size ≡ next = omega (arith, cs .stands .offset, cs .size) in
-          at-later ∙ pick-no _ _ not-again ∙ pick-no _ _ not-box ∙ pick-no _ _ uncut ∙ pick-yes _ _ e ∙ rw (n, part-size next p)
+          at-later ∙ pick-no _ _ not-again ∙ pick-no _ _ not-box ∙ pick-no _ _ uncut ∙ pick-yes _ _ e
+          ∙ rw (n, part-size next p)
 
       module _ (text : isText (x .item) && not (utf8 (x .item .content)) ≡ false) where
         at-rest : headed o a (some h) (drop at s)

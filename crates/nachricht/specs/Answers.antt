@@ -15,12 +15,28 @@ modeOf true = Strict
 modeOf false = Lenient
 
 unfoldable pub failedAnswer : Failure → Answer
-failedAnswer f = record { error = codeOf (f .error); place = f .place; side = f .side; row = f .row; count = 0; entries = 0; fields = 0 }
+failedAnswer f = record {
+  error = codeOf (f .error);
+  place = f .place;
+  side = f .side;
+  row = f .row;
+  count = 0;
+  entries = 0;
+  fields = 0;
+}
 
 -- the counts of a bundle
 unfoldable pub countsAnswer : answer.Answer Bundle → Answer
 countsAnswer (failed f) = failedAnswer f
-countsAnswer (good b) = record { error = 0; place = 0; side = 0; row = 0; count = b .rows; entries = b .entries; fields = b .fields }
+countsAnswer (good b) = record {
+  error = 0;
+  place = 0;
+  side = 0;
+  row = 0;
+  count = b .rows;
+  entries = b .entries;
+  fields = b .fields;
+}
 
 -- the number of bytes written
 unfoldable pub countAnswer : answer.Answer ℕ → Answer

@@ -111,7 +111,8 @@ module _ {o : Options} {s es : List ℕ} {t : Cursor} {p : Place} {a : State} (l
   turn-bad k g e = stops k g (subst (Judged o s es′ (t .names) from this) e judged)
 
   -- a text that is not UTF-8
-  pub turn-bad-text : (i u : ℕ) → r ≡ out.BadText i u → run o a 0 (drop (a .at) s) ≡ failed (failure InvalidUtf8 (stopIn s i u))
+  pub turn-bad-text : (i u : ℕ) → r ≡ out.BadText i u
+      → run o a 0 (drop (a .at) s) ≡ failed (failure InvalidUtf8 (stopIn s i u))
   unfolding fail
   turn-bad-text i u e = stops-at InvalidUtf8 (stopIn s i u) (subst (Judged o s es′ (t .names) from this) e judged)
 
@@ -187,7 +188,8 @@ module _ {o : Options} {s es : List ℕ} {t : Cursor} {a : State} (Q : ℕ → B
   pub field-bad : {f : Failure} (k : Error) → f ≡ failure k (t .at) → r ≡ out.Bad k → run o a 0 (drop (a .at) s) ≡ failed f
   field-bad k g e = turn-bad lead here es′ d deep r one k g e
 
-  pub field-bad-text : (i u : ℕ) → r ≡ out.BadText i u → run o a 0 (drop (a .at) s) ≡ failed (failure InvalidUtf8 (stopIn s i u))
+  pub field-bad-text : (i u : ℕ) → r ≡ out.BadText i u
+      → run o a 0 (drop (a .at) s) ≡ failed (failure InvalidUtf8 (stopIn s i u))
   field-bad-text i u e = turn-bad-text lead here es′ d deep r one i u e
 
   pub field-full : {f : Failure} → f ≡ failure TooManyRows (t .at) → (x : Out) → r ≡ x

@@ -117,8 +117,8 @@ module _ (text : List ℕ) (p : Progress) (r : Row) where
 
 module _ {text es links st plan : List ℕ} {xs : List Row} {s : State} (a : After text es links st plan xs s) (r : Row) where
   -- it is refused, whatever became of the tables
-  refuse-at : {es′ links′ st′ plan′ : List ℕ} {e : Error} (k : RowError e) (size : ℕ) {t : State} → t ≡ refused s (codeOf e) size
-      → first (rowRules text (a .progress) r) ≡ some (failureIn e (refused s (codeOf e) size))
+  refuse-at : {es′ links′ st′ plan′ : List ℕ} {e : Error} (k : RowError e) (size : ℕ) {t : State}
+      → t ≡ refused s (codeOf e) size → first (rowRules text (a .progress) r) ≡ some (failureIn e (refused s (codeOf e) size))
       → Next text es′ links′ st′ plan′ xs r s t
   unfolding refused
   refuse-at {e = e} k size q rules =

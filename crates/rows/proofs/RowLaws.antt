@@ -123,5 +123,6 @@ module _ (text : List ℕ) (r : Row) where
           ∙ length-take-le (r .number) (drop (r .start) text) (omega (arith, length-drop (r .start) text, inside))
 
       -- it ends where a text may end
-      pub content-end : {part : List ℕ} → part ≡ contentOf text r → length text ≤ max-bytes → r .start + length part ≤ max-bytes
+      pub content-end : {part : List ℕ} → part ≡ contentOf text r → length text ≤ max-bytes
+          → r .start + length part ≤ max-bytes
       content-end e short = omega (arith, ap length e, content-length, inside)

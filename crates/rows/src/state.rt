@@ -23,8 +23,7 @@ pub struct State {
     pub keyed: usize,
     // different names
     pub names: usize,
-    // bytes of the canonical encoding, or of a text that is not UTF-8 the offset at which it stops being good. With a
-    // field of its own for that writing names and boards took 1.03 times as long (four runs of the bench).
+    // bytes of the canonical encoding, or of a text that is not UTF-8 the offset at which it stops being good
     pub size: usize,
     // 0, or the number of the error. No `Outcome`: with one, tried unproved, writing boards took 1.08 to 1.12 times as
     // long (three runs of the bench).

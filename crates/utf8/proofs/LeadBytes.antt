@@ -112,7 +112,8 @@ module _ (s : List ℕ) (i : ℕ) (h : i < length s) where
     no-lead e = rw z (here 0 ∙ stop-here 0 b i _ (rw (sym q ∙ e)))
 
   -- some: it is one of them, or is not
-  pub tail : (k : ℕ) → k ≢ 0 → 0x80 ≤ getD s i 0 → getD s i 0 ≤ 0xbf → stopAfter k i (drop i s) ≡ stopAfter (k - 1) (i + 1) (drop (i + 1) s)
+  pub tail : (k : ℕ) → k ≢ 0 → 0x80 ≤ getD s i 0 → getD s i 0 ≤ 0xbf
+      → stopAfter k i (drop i s) ≡ stopAfter (k - 1) (i + 1) (drop (i + 1) s)
   unfolding fits dueAfter within
   tail zero n l u = absurd (n refl)
   tail (suc k) n l u =
@@ -124,7 +125,8 @@ module _ (s : List ℕ) (i : ℕ) (h : i < length s) where
   no-tail zero n f = absurd (n refl)
   no-tail (suc k) n f =
       here (suc k) ∙ stop-here (suc k) b i _
-      (order 0x80 b (λ l. and-no-right (leb 0x80 b) (leb-no {a = b} {b = 0xbf} (f l))) (λ l. and-no-left _ (leb-no {a = 0x80} {b = b} l)))
+      (order 0x80 b (λ l. and-no-right (leb 0x80 b) (leb-no {a = b} {b = 0xbf} (f l)))
+      (λ l. and-no-left _ (leb-no {a = 0x80} {b = b} l)))
 
 -- ---- no byte is left
 

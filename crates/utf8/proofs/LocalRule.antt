@@ -38,7 +38,8 @@ module _ (p3 p2 p1 b i : ℕ) (bs : List ℕ) where
       let h : b ≤ 0xbf = leb-true b 0xbf e in
       rw (leb-no {a = 0xf0} {b = b} (omega arith), leb-no {a = 0xe0} {b = b} (omega arith), leb-no {a = 0xc0} {b = b} (omega arith))
 
-  step-due : due p3 p2 p1 ≡ true → goodAfter (dueCount p3 p2 p1) i (b ∷ bs) ≡ (passes p3 p2 p1 b && goodAfter (dueCount p2 p1 b) (i + 1) bs)
+  step-due : due p3 p2 p1 ≡ true
+      → goodAfter (dueCount p3 p2 p1) i (b ∷ bs) ≡ (passes p3 p2 p1 b && goodAfter (dueCount p2 p1 b) (i + 1) bs)
   unfolding fits dueAfter passes within
   step-due e =
       good-step (dueCount p3 p2 p1) b i bs ∙ rw (count-due e, e)

@@ -1,4 +1,5 @@
-// UTF-8 judged: of any text, and of names, which are short and mostly ASCII; and the place at which a text stops being good.
+// UTF-8 judged: of any text, and of names, which are short and mostly ASCII. And the place at which a text stops being
+// good.
 mod ascii;
 mod bytewise;
 mod local;

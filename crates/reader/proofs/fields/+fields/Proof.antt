@@ -34,7 +34,16 @@ abbrev fields-below : ℕ → In 3 fields-kinds.ps
 fields-below t = and 3 fields-kinds.ps (falls 3 fields-kinds.ps _<_ μ-fields t) fields.Pre
 
 abbrev claims : ℕ → fields-lts.Claims
-claims t = (one-reads.Asked, one-reads.Learnt, new-reads.Asked, new-reads.Learnt, bad-text-reads.Asked, bad-text-reads.Learnt, fields-below t, fields.Post)
+claims t = (
+  one-reads.Asked,
+  one-reads.Learnt,
+  new-reads.Asked,
+  new-reads.Learnt,
+  bad-text-reads.Asked,
+  bad-text-reads.Learnt,
+  fields-below t,
+  fields.Post,
+)
 
 abbrev fields-Inv-loop : fields-lts.InvT-loop
 fields-Inv-loop s strict depth from known free entries₀ links₀ at₀ names₀ rows₀ keyed₀ left₀ entries links at names rows keyed left =
@@ -112,8 +121,8 @@ fields-returns-3 t c =
     let is = c .bad-text .ensures in (
       rw is tt,
       λ Q o a so l h f e.
-          rw is (field-bad-text Q _ _ (loop′ .left) l (loop-test′ .taken) (inv .0 .most) (inv .1 Q o a so l h f e) (if1′ .left) _ _
-          (λ b. one′ .ensures .1 o b so) _ _ (c .before .before .start .given .1)),
+          rw is (field-bad-text Q _ _ (loop′ .left) l (loop-test′ .taken) (inv .0 .most) (inv .1 Q o a so l h f e) (if1′ .left)
+          _ _ (λ b. one′ .ensures .1 o b so) _ _ (c .before .before .start .given .1)),
     )
 
 fields-enum-known-u : (t : ℕ) → fields-lts.Need-enum-known-u (claims t) (fields-at t) fields.Post fields-Inv-loop fields-μ-loop

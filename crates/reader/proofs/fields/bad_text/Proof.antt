@@ -26,8 +26,9 @@ add-place : tie.Need-add-place
 add-place c =
     let s = c .before .before .before in
     let a = s .args in
+    let size = a .end - a .start in
     let rest = drop (a .start) (a .s .now) in
-    omega (arith, c .bad-at .ensures, bad-within (take (a .end - a .start) rest), length-take (a .end - a .start) rest, s .pre)
+    omega (arith, c .bad-at .ensures, bad-within (take size rest), length-take size rest, s .pre)
 
 new-requires : tie.Need-new-requires
 new-requires c κs = search needs

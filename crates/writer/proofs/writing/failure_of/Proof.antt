@@ -36,4 +36,5 @@ returns-2 c =
     (sym (pick-no _ _ (eqb-no (λ z. c .before .if1 .left (z ∙ sym (called .code .ensures))))))
 
 pub failure-of-spec : {M : Type 1} → statement M
-failure-of-spec = tie.close (tie.spec error-of-requires code-requires cast-if1 beside-requires returns new-requires returns-2)
+failure-of-spec =
+    tie.close (tie.spec error-of-requires code-requires cast-if1 beside-requires returns new-requires returns-2)
