@@ -1,9 +1,11 @@
 -- `bad_text` adds the place in the text to its start. Assumes nothing.
 use mathlib.Core.Path.{ap, _∙_}
-use Prim.Native.Nat.{_-_}
+use Prim.Native.Nat.{ℕ, _+_, _-_}
 use native.Mathlib.Omega.{arith}
 use borrow.Author.Needs.{needs}
 use lib.ListN.{take, drop, length-take}
+use Rattle.format.specs.declared.error.Error.the-variants.{InvalidUtf8}
+use Rattle.format.specs.Answer.{failure}
 use Rattle.format.proofs.Utf8.{bad-within}
 use Rattle.items.specs.Judging.{stopIn}
 use Rattle.reader.specs.declared.fields.Step.the-variants as step
@@ -35,7 +37,9 @@ new-requires c κs = search needs
 
 returns : tie.Need-returns
 unfolding stopIn
-returns c = ap step.Bad (c .new .ensures ∙ rw (c .before .bad-at .ensures))
+returns c =
+    let a = c .before .before .before .before .args in
+    ap step.Bad (c .new .ensures ∙ ap (λ (i : ℕ). failure InvalidUtf8 (a .start + i)) (c .before .bad-at .ensures))
 
 pub bad-text-spec : {M : Type 1} → statement M
 bad-text-spec =
