@@ -1,9 +1,9 @@
--- `symbols::entry::is_name_lem` meets its contract: another key is another name, and with the same key the bytes decide. Assumes nothing.
+-- `symbols::entry::is_name` meets its contract: another key is another name, and with the same key the bytes decide. Assumes nothing.
 use mathlib.Core.Path.{sym, ◌∙◌}
 use Rattle.symbols.proofs.EntryLaws.{other_key, same_key}
 use borrow.Author.Rules.{rules}
-use Rattle.symbols.proofs.entry.is_name_lem.Statement.{statement}
-use Rattle.symbols.proofs.entry.is_name_lem.Tie as tie
+use Rattle.symbols.proofs.entry.is_name.Statement.{statement}
+use Rattle.symbols.proofs.entry.is_name.Tie as tie
 
 name-key-requires : tie.Need-name-key-requires
 name-key-requires c κs = search rules

@@ -51,7 +51,7 @@ is-name-requires c κs =
 
 returns : tie.Need-returns invariant-loop decreases-loop
 returns c =
-    let h = sym c.before.is_name_lem.ensures ∙ c.if1.true in
+    let h = sym c.before.is_name.ensures ∙ c.if1.true in
     let p = c.before.before.before.before.before.before.before.before.before.before.requires in
     found_at (along_hit _ p.0 p.1 p.2 p.3 c.before.before.before.before.loop.invariant
     c.before.before.before.loop-test.true h)
@@ -73,7 +73,7 @@ loop-less c =
 
 loop-again : tie.Need-loop-preserved invariant-loop decreases-loop
 loop-again c =
-    let h = sym c.before.before.is_name_lem.ensures ∙ c.before.if1.false in
+    let h = sym c.before.before.is_name.ensures ∙ c.before.if1.false in
     let p = c.before.before.before.before.before.before.before.before.before.before.before.requires in
     along_next _ p.0 p.1 p.2 p.3 c.before.before.before.before.before.loop.invariant
     c.before.before.before.before.loop-test.true h
