@@ -1,4 +1,6 @@
 // The envelope around a bundle: opened as a part of the bytes, closed into a buffer.
+#![tactic(auto)]
+
 mod closing;
 mod opening;
 

@@ -1,4 +1,6 @@
 // The text that `listing` prints for one envelope.
+#![tactic(auto)]
+
 mod line;
 mod table;
 mod text;

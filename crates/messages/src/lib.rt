@@ -1,4 +1,6 @@
 // What the programs say on standard error.
+#![tactic(auto)]
+
 mod label;
 mod refusal;
 

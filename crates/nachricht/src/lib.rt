@@ -1,4 +1,5 @@
 // The C interface, built as the static library `libnachricht.a`.
+#![tactic(auto)]
 ghost use Rattle.std.specs.Prelude.{◌≡◌, length};
 ghost use Rattle.format.specs.Answer.{counted, good, stored};
 ghost use Rattle.format.specs.Limits.{max_rows};

@@ -1,4 +1,6 @@
 // The programs `listing` and `tidy`: their command line, their inputs one after the other, and the exit status.
+#![tactic(auto)]
+
 mod about;
 mod arguments;
 mod entry;

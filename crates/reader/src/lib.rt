@@ -1,4 +1,6 @@
 // The reader: the fields of a container by recursion, `check` and `read`.
+#![tactic(auto)]
+
 mod checking;
 mod fields;
 mod fill;

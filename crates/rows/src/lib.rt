@@ -1,4 +1,6 @@
 // One row, judged by the rules of writing in their order, and measured.
+#![tactic(auto)]
+
 mod item;
 mod name;
 mod place;

@@ -1,4 +1,6 @@
 // An input as a window that moves over its bytes, and standard output behind a buffer: fixed memory, pieces of any size.
+#![tactic(auto)]
+
 mod input;
 mod output;
 mod state;

@@ -1,5 +1,7 @@
 // UTF-8 judged: of any text, and of names, which are short and mostly ASCII. And the place at which a text stops being
 // good.
+#![tactic(auto)]
+
 mod ascii;
 mod bytewise;
 mod local;
