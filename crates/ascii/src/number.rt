@@ -5,7 +5,7 @@ ghost use Rattle.wire.specs.Output.{Puts};
 
 use wire::output::copy;
 
-#[derive(Drop)]
+#[derive(Clone, Copy)]
 pub struct Decimal;
 
 impl Decimal {

@@ -11,7 +11,7 @@ use format::{Header, Row, SymbolTable};
 use wire::output::{copy, put_header, put_number};
 
 // How a name is to be written: an index, or in full.
-#[derive(Drop)]
+#[derive(Clone, Copy)]
 pub struct Reference;
 
 impl Reference {

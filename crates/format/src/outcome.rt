@@ -2,7 +2,7 @@
 use crate::failure::Failure;
 
 // It is good, or why it is refused.
-#[derive(Drop)]
+#[derive(Clone, Copy)]
 pub enum Outcome {
     Good,
     Failed(Failure),

@@ -17,7 +17,7 @@ use wire::header::{Head, kind_of};
 use wire::rules::{bad_text, key_after_key};
 
 // What one item is, with the offset of the next.
-#[derive(Drop)]
+#[derive(Clone, Copy)]
 pub enum Out {
     // No `Failure`: its place is the item's, which the caller has. With one, tried unproved, checking names took 1.5 times
     // as long and one line 1.2 times (three runs of the bench).

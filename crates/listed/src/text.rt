@@ -11,7 +11,7 @@ use ascii::Decimal;
 use format::{Outcome, Row};
 use reader::Checked;
 
-#[derive(Drop)]
+#[derive(Clone, Copy)]
 pub struct Text;
 
 impl Text {
@@ -26,7 +26,7 @@ impl Text {
 }
 
 // How many bytes were written, and whether the bundle reads.
-#[derive(Drop)]
+#[derive(Clone, Copy)]
 pub struct Printed {
     pub written: usize,
     pub outcome: Outcome,

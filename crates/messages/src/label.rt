@@ -5,7 +5,7 @@ ghost use Rattle.messages.specs.Text.{label, unknown_option};
 
 use wire::output::copy;
 
-#[derive(Drop)]
+#[derive(Clone, Copy)]
 pub struct Label;
 
 impl Label {

@@ -6,7 +6,7 @@ ghost use Rattle.messages.specs.Text.{error_at, max_refusal, meaning, refusal, w
 use ascii::{Decimal, put_labelled};
 use wire::output::copy;
 
-#[derive(Drop)]
+#[derive(Clone, Copy)]
 pub struct Refusal;
 
 impl Refusal {

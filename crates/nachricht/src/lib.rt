@@ -17,7 +17,7 @@ use reader::Checked;
 
 // An answer: the error's number or 0, its place, side and the row beside it, and the counts.
 #[repr(C)]
-#[derive(Drop)]
+#[derive(Clone, Copy)]
 pub struct Answer {
     pub error: u64,
     pub place: u64,

@@ -7,7 +7,7 @@ use libc::ENAMETOOLONG;
 use wire::bytes::same;
 
 // One argument: the name of a file, a request for a text, or an option that there is not.
-#[derive(Drop)]
+#[derive(Clone, Copy)]
 pub enum Argument {
     File,
     Help,
@@ -16,7 +16,7 @@ pub enum Argument {
 }
 
 // All of them: a run, a text, or the first that is an option that there is not.
-#[derive(Drop)]
+#[derive(Clone, Copy)]
 pub enum Request {
     Run,
     Help,

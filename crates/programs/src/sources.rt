@@ -10,7 +10,7 @@ use messages::{Label, put_label, put_refusal};
 use runner::{Program, run};
 use stream::{Refusal, Stream, fail};
 
-#[derive(Drop)]
+#[derive(Clone, Copy)]
 pub struct Line;
 
 impl Line {

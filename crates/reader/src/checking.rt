@@ -11,7 +11,7 @@ use format::{Bundle, Error, Failure, FieldCount, Mode, Row, SymbolTable};
 use symbols::lookup::Links;
 
 // The counts of a bundle that reads, or why it does not; the place is an offset.
-#[derive(Drop)]
+#[derive(Clone, Copy)]
 pub enum Checked {
     Good(Bundle),
     Failed(Failure),
@@ -26,7 +26,7 @@ impl Checked {
 }
 
 // How many fields are asked for at the top: more than there are bytes, so that the bytes end first.
-#[derive(Drop)]
+#[derive(Clone, Copy)]
 struct Top;
 
 impl Top {

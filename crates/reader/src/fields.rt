@@ -11,7 +11,7 @@ use items::item::Out;
 use symbols::lookup::Links;
 
 // How far reading has come: the offset, the entries, the rows that are left, and 1 where a key was read and its value is due.
-#[derive(Drop)]
+#[derive(Clone, Copy)]
 pub struct Cursor {
     pub at: usize,
     pub names: usize,
@@ -20,7 +20,7 @@ pub struct Cursor {
 }
 
 // What fields come to: a failure, the end of the bytes with some of them left, or all are read.
-#[derive(Drop)]
+#[derive(Clone, Copy)]
 pub enum Step {
     Bad(Failure),
     End(u64, Cursor),

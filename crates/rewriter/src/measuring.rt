@@ -18,7 +18,7 @@ use symbols::lookup::{Links, Noted, note};
 use wire::header::{Head, header_at, header_len, kind_of};
 
 // How far measuring has come.
-#[derive(Drop)]
+#[derive(Clone, Copy)]
 pub struct Tally {
     // the offset in the bundle
     pub at: usize,

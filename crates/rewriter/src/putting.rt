@@ -19,14 +19,14 @@ use wire::header::{Head, header_at};
 use wire::output::put_header;
 
 // Where an item ends in the bundle, and how many bytes were written for it.
-#[derive(Drop)]
+#[derive(Clone, Copy)]
 pub struct Step {
     pub at: usize,
     pub len: usize,
 }
 
 // How far writing has come: the offset in the bundle, the row, and the offset in the buffer.
-#[derive(Drop)]
+#[derive(Clone, Copy)]
 pub struct Spot {
     pub at: usize,
     pub row: usize,

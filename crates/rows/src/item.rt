@@ -12,7 +12,7 @@ use format::{Header, Row};
 use wire::header::{code_of, header_len};
 
 // Four bytes have so many values.
-#[derive(Drop)]
+#[derive(Clone, Copy)]
 struct Bits;
 
 impl Bits {

@@ -25,7 +25,7 @@ use wire::rules::key_after_key;
 
 // For each row that is a name its reference, and then guesses: the entry of a name that begins at a place in the text,
 // if it is still there.
-#[derive(Drop)]
+#[derive(Clone, Copy)]
 pub struct Plan;
 
 impl Plan {

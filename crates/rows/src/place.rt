@@ -8,7 +8,7 @@ use crate::state::State;
 use format::{Bundle, Row};
 
 // How many containers are open, and the fields left in the innermost.
-#[derive(Drop)]
+#[derive(Clone, Copy)]
 pub struct Level {
     pub depth: usize,
     pub left: u64,

@@ -8,7 +8,7 @@ ghost use Rattle.rows.specs.Steps.{refused};
 
 use format::{Error, Row};
 
-#[derive(Drop)]
+#[derive(Clone, Copy)]
 pub struct State {
     // rows taken, or the number of the row that is refused
     pub row: usize,

@@ -7,7 +7,7 @@ ghost use Rattle.runner.specs.Program.{filter_of};
 use listed::Text;
 use stream::Step;
 
-#[derive(Drop)]
+#[derive(Clone, Copy)]
 pub enum Program {
     Listing,
     Tidy,

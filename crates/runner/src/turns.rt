@@ -13,7 +13,7 @@ use format::Bundle;
 use listed::Text;
 use stream::{Action, Stream, advance, begin, fail, finish, flush, next, refill};
 
-#[derive(Drop)]
+#[derive(Clone, Copy)]
 pub struct Output;
 
 impl Output {

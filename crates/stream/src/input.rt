@@ -5,7 +5,7 @@ ghost use Rattle.stream.specs.Window.{Pulls, Within, unread, unused};
 use libc::EINTR;
 
 // Ended: there is no more input.
-#[derive(Drop)]
+#[derive(Clone, Copy)]
 pub struct Window {
     pub start: usize,
     pub end: usize,
@@ -26,7 +26,7 @@ impl Window {
 }
 
 // The window after a read, and whether that failed.
-#[derive(Drop)]
+#[derive(Clone, Copy)]
 pub struct Pulled {
     pub window: Window,
     pub failed: bool,

@@ -9,7 +9,7 @@ use crate::output::put;
 use format::{Failure, Outcome};
 
 // The first envelope that was refused, by its number, and why.
-#[derive(Drop)]
+#[derive(Clone, Copy)]
 pub enum Refusal {
     None,
     First(u64, Failure),
@@ -17,7 +17,7 @@ pub enum Refusal {
 
 // The window over the input, how many bytes of the output wait in their buffer, how many envelopes were taken, the
 // first that was refused, whether one stopped the run, whether reading or writing failed, and whether the run has ended.
-#[derive(Drop)]
+#[derive(Clone, Copy)]
 pub struct Stream {
     pub window: Window,
     pub filled: usize,
@@ -59,7 +59,7 @@ impl Stream {
 
 // What one envelope took of the input, how many bytes were written for it, and what became of it. One that stops the
 // run takes nothing.
-#[derive(Drop)]
+#[derive(Clone, Copy)]
 pub struct Step {
     pub used: usize,
     pub written: usize,
@@ -67,7 +67,7 @@ pub struct Step {
 }
 
 // What is to be done next: read, take the next envelope, or end.
-#[derive(Drop)]
+#[derive(Clone, Copy)]
 pub enum Action {
     Read,
     Take,

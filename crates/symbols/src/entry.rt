@@ -11,7 +11,7 @@ use format::{Bundle, Row};
 
 // The fields of an entry, from the lowest: the kind, counted from that of symbols; the length; the mark; the side; the start.
 // A field's unit is what one of it counts: as many as the fields below it have values.
-#[derive(Drop)]
+#[derive(Clone, Copy)]
 pub struct Entry;
 
 impl Entry {

@@ -12,7 +12,7 @@ use crate::entry::{Entry, bucket, is_name, pack};
 use format::SymbolTable;
 
 // The links of the chains: a head for each bucket, then the next of each entry.
-#[derive(Drop)]
+#[derive(Clone, Copy)]
 pub struct Links;
 
 impl Links {
@@ -21,7 +21,7 @@ impl Links {
     pub const SIZE: usize = Links::HEADS + SymbolTable::MAX_ENTRIES;
 }
 
-#[derive(Drop)]
+#[derive(Clone, Copy)]
 pub enum Lookup {
     At(usize),
     Nothing,
@@ -76,7 +76,7 @@ pub fn enter<'a>(
 }
 
 // What noting a name comes to: the index of its entry, one entry more, or no entry left for it.
-#[derive(Drop)]
+#[derive(Clone, Copy)]
 pub enum Noted {
     Known(usize),
     Entered,

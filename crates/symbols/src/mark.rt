@@ -4,7 +4,7 @@ ghost use Rattle.symbols.specs.Mark.{marks, max_end, mixed, mark_end, mark_of};
 
 use wire::header::number;
 
-#[derive(Drop)]
+#[derive(Clone, Copy)]
 pub struct Marks;
 
 impl Marks {

@@ -6,7 +6,7 @@ ghost use Rattle.utf8.specs.Local.{before, max_short, Passing, Ascii};
 use crate::local::Window;
 
 // A short text is looked at by its two ends, which meet or overlap, the front of a long one by steps.
-#[derive(Drop)]
+#[derive(Clone, Copy)]
 pub struct Ends;
 
 impl Ends {

@@ -6,7 +6,7 @@ ghost use Rattle.utf8.specs.Local.{Ascii, stop_of};
 use crate::ascii::{Ends, ascii_at};
 
 // The place at which a text stops being good.
-#[derive(Drop)]
+#[derive(Clone, Copy)]
 pub enum Stop {
     Nowhere,
     At(usize),

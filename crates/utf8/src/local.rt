@@ -6,7 +6,7 @@ ghost use Rattle.utf8.specs.Local.{before, block_bytes, due, passes, Passing, go
 use crate::ascii::ascii_front;
 
 // A window is a byte and those before it that the rule looks at; a block is so many windows, one byte further each.
-#[derive(Drop)]
+#[derive(Clone, Copy)]
 pub struct Window;
 
 impl Window {

@@ -16,7 +16,7 @@ use wire::codes::{is_integer, number_of};
 use wire::header::{Head, kind_of};
 
 // How far a walk has come.
-#[derive(Drop)]
+#[derive(Clone, Copy)]
 pub struct Walked {
     // where the next item begins
     pub at: usize,

@@ -9,7 +9,7 @@ ghost use Rattle.wire.specs.Heads.{sizes, max_following, whole_of};
 use format::{Header, Row};
 
 // The lead byte of a header: `sz` is counted by one, the code by as many as `sz` has values.
-#[derive(Drop)]
+#[derive(Clone, Copy)]
 pub struct Lead;
 
 impl Lead {
@@ -19,7 +19,7 @@ impl Lead {
 }
 
 // A header that was read, or bytes that end inside it.
-#[derive(Drop)]
+#[derive(Clone, Copy)]
 pub enum Head {
     Cut,
     Whole(Header),

@@ -4,19 +4,15 @@ use Prim.Native.Nat.{min}
 use native.Mathlib.Omega.{arith}
 use Rattle.format.specs.Limits.{max_bytes}
 use Rattle.format.proofs.Tests.{ltb_no, ltb_yes, order}
-use Rattle.encoder.proofs.fitting.is_over.Statement.{statement}
-use Rattle.encoder.proofs.fitting.is_over.Tie as tie
+use Rattle.encoder.proofs.fitting.is_over.Goals as goal
 
-returns : tie.Need-returns
-returns c = sym (ltb_yes {a = min max_bytes c.before.args.capacity} {b = c.before.args.size} (omega arith))
+pub returns-then-size-gt-MAX_BYTES : goal.returns-then-size-gt-MAX_BYTES
+returns-then-size-gt-MAX_BYTES c = sym (ltb_yes {a = min max_bytes c.args.capacity} {b = c.args.size} (omega arith))
 
-returns-2 : tie.Need-returns-2
-returns-2 c =
-    let size = c.before.args.size in
-    let capacity = c.before.args.capacity in
+pub returns : goal.returns
+returns c =
+    let size = c.args.size in
+    let capacity = c.args.capacity in
     order size capacity
     (λ l. ltb_no l ∙ sym (ltb_no {a = min max_bytes capacity} {b = size} (omega arith)))
     (λ l. ltb_yes l ∙ sym (ltb_yes {a = min max_bytes capacity} {b = size} (omega arith)))
-
-pub is-over-spec : {M : Type 1} → statement M
-is-over-spec = tie.close (tie.spec returns returns-2)
