@@ -1,0 +1,14 @@
+-- `rewriter::putting::item` meets its contract: in a bundle that reads no header is cut. Assumes nothing.
+use Rattle.format.specs.Reading.{lenient}
+use Rattle.format.proofs.Turns.{never-cut}
+use borrow.Author.Rules.{rules}
+use Rattle.rewriter.proofs.putting.item.Goals as goal
+
+pub put_next-requires : goal.put_next-requires
+put_next-requires c =
+    (c.requires.0, rw c.in-Whole.is at c.header_at.ensures)
+
+pub returns-in-Cut : goal.returns-in-Cut
+returns-in-Cut c =
+    λ zs ws u old g p. never-cut lenient _ p.state p.reads (rw p.offset c.requires.1)
+    (rw p.offset (rw c.in-Cut.is at c.header_at.ensures))
