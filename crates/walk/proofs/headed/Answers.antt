@@ -46,7 +46,7 @@ returns-then-code-ge-SYMBOL c =
     let below = c.if-code-ge-REFERENCE.false in
     let f = form-text c.args.h (omega (arith, above)) (omega (arith, below)) in
     let entered = rw c.kind_of-then-code-ge-SYMBOL.ensures at c.name.ensures in
-    λ bs e o u s p. name-on p e f (omega (arith, above)) (omega (arith, below)) c.of-len.ensures entered.1 entered.0
+    λ bs e o u s p. name-on p e f (omega (arith, above)) (omega (arith, below)) c.of-len.ensures entered.entered entered.walked
 
 pub content-requires : goal.content-requires
 content-requires c =
