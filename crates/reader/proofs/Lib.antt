@@ -3,4 +3,3 @@ pub mod LastRule
 pub mod Turns
 pub mod Tops
 pub mod FillSteps
-pub mod WalkSteps
