@@ -3,7 +3,6 @@ use mathlib.Core.Path.{ap, ◌∙◌}
 use Rattle.format.specs.declared.error.Mode.{Mode}
 use Rattle.format.specs.Limits.{max_rows}
 use Rattle.format.specs.Reading.{options, counts}
-use borrow.Author.Rules.{rules}
 use Rattle.reader.proofs.checking.check.Goals as goal
 
 pub returns : goal.returns

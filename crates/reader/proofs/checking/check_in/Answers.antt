@@ -1,6 +1,5 @@
 -- `check_in` counts with the most rows that there may be. Assumes nothing.
 use mathlib.Core.Path.{refl}
-use borrow.Author.Rules.{rules}
 use Rattle.reader.proofs.checking.check_in.Goals as goal
 
 pub returns : goal.returns

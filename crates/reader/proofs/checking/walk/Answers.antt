@@ -6,7 +6,6 @@ use Rattle.format.specs.Limits.{max_bytes, max_rows}
 use Rattle.format.specs.Reading.{options, start}
 use Rattle.format.proofs.Tests.{eqb_yes, eqb_no}
 use Rattle.reader.proofs.Tops.{fair-start, stands-start, row-start, outside, outside_lane, top-place, too_long, top-failed, top-keyed, top-good}
-use borrow.Author.Rules.{rules}
 use Rattle.reader.proofs.checking.walk.Goals as goal
 
 -- more than there are bytes

@@ -1,18 +1,9 @@
 -- `fields` resumes the run: each turn of its loop is a turn of `Turns`, and the bytes that are left fall. Assumes nothing.
 use native.Mathlib.Omega.{arith}
 use mathlib.Core.Path.{◌≡◌, refl, ap, ◌∙◌}
-use mathlib.Core.Bool.{Bool, false}
-use Prim.Native.Nat.{◌+◌, ◌-◌, min}
 use lib.Dec.{eqb}
-use lib.ListN.{length}
-use borrow.Author.Rules.{rules}
-use Rattle.format.specs.Limits.{max_rows}
-use Rattle.format.specs.Place.{Place}
-use Rattle.format.specs.Reading.{Options, State}
-use Rattle.items.specs.Judging.{Stands}
-use Rattle.reader.specs.Lanes.{Lane, Leads}
-use Rattle.reader.proofs.Turns.{cursor, Along, at_place, start_field, field_bad, field_bad_text, field_full, field_value, field_symbol, field_key, field_new_key, field_held_bad, field_held_end, field_held_good, along_value, along_key, along_held}
-use Prim.Native.Nat.{ℕ, ◌<◌}
+use Rattle.reader.proofs.Turns.{at_place, start_field, field_bad, field_bad_text, field_full, field_value, field_symbol, field_key, field_new_key, field_held_bad, field_held_end, field_held_good, along_value, along_key, along_held}
+use Prim.Native.Nat.{ℕ}
 use Rattle.reader.proofs.fields.+fields.Goals as goal
 
 pub loop-left-init : goal.loop-left-init

@@ -1,6 +1,5 @@
 -- `reader::reading::counted`: `walk` at the capacity of a table.
 use mathlib.Core.Path.{sym}
-use borrow.Author.Rules.{rules}
 use Rattle.reader.proofs.reading.counted.Goals as goal
 
 -- src/reading.rt:39:1

@@ -1,6 +1,5 @@
 -- `reader::checking::Checked::fail` meets its contract. Assumes nothing.
 use mathlib.Core.Path.{ap}
-use borrow.Author.Rules.{rules}
 use Rattle.format.specs.Answer.{fail, failed}
 use Rattle.reader.proofs.checking.Checked.fail.Goals as goal
 
