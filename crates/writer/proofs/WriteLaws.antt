@@ -16,7 +16,7 @@ use Rattle.format.specs.declared.error.Error.TheVariants.{OutputTooLong, TooLong
 use Rattle.format.specs.Error.{code_of}
 use Rattle.format.specs.Choice.{pick}
 use Rattle.format.specs.Limits.{max_entries, max_bytes, max_rows}
-use Rattle.format.specs.Answer.{Answer, counted, fail, failed, failure, failure_beside, good, stored, then}
+use Rattle.format.specs.Answer.{Answer, counted, fail, failed, failure, good, stored, then}
 use Rattle.format.specs.Names.{names_from}
 use Rattle.format.specs.Place.{due}
 use Rattle.format.specs.Canonical.{canonical, canonical_from}
