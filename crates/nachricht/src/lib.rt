@@ -1,4 +1,4 @@
-// The C interface, built as the static library `libnachricht.a`.
+// The calls of the C interface, which `nachricht_c` exports, with plain numbers for what they answer.
 #![tactic(auto)]
 ghost use Rattle.std.specs.Prelude.{◌≡◌, length};
 ghost use Rattle.format.specs.Answer.{counted, good, stored};
@@ -94,16 +94,14 @@ fn written_of(r: Written) -> Answer
 }
 
 // Checks a bundle.
-#[unsafe(no_mangle)]
-pub extern "C" fn nachricht_check(bytes: &[u8], strict: bool) -> Answer
+pub fn nachricht_check(bytes: &[u8], strict: bool) -> Answer
     ensures { result ≡ counts_answer (counts (options (mode_of strict) max_rows) bytes.now) }
 {
     answer_of(reader::check_in(bytes, mode_of(strict)))
 }
 
 // Reads a bundle into a table of rows.
-#[unsafe(no_mangle)]
-pub extern "C" fn nachricht_read(bytes: &[u8], strict: bool, rows: &mut [Row]) -> Answer
+pub fn nachricht_read(bytes: &[u8], strict: bool, rows: &mut [Row]) -> Answer
     ensures answer { result ≡ counts_answer (counts (options (mode_of strict) (length rows.old)) bytes.now) }
     ensures filled { rows.new ≡ stored rows.old
         (table.rows (options (mode_of strict) (length rows.old)) bytes.now) }
@@ -112,8 +110,7 @@ pub extern "C" fn nachricht_read(bytes: &[u8], strict: bool, rows: &mut [Row]) -
 }
 
 // Writes rows over a text.
-#[unsafe(no_mangle)]
-pub extern "C" fn nachricht_write(rows: &[Row], text: &[u8], out: &mut [u8]) -> Answer
+pub fn nachricht_write(rows: &[Row], text: &[u8], out: &mut [u8]) -> Answer
     ensures answer { result ≡ count_answer (counted (writing rows.now text.now (length out.old))) }
     ensures buffer { out.new ≡ stored out.old
         (writing rows.now text.now (length out.old)) }
@@ -122,8 +119,7 @@ pub extern "C" fn nachricht_write(rows: &[Row], text: &[u8], out: &mut [u8]) -> 
 }
 
 // Writes the canonical encoding of a bundle.
-#[unsafe(no_mangle)]
-pub extern "C" fn nachricht_canonicalize(bytes: &[u8], out: &mut [u8]) -> Answer
+pub fn nachricht_canonicalize(bytes: &[u8], out: &mut [u8]) -> Answer
     ensures answer { result ≡ count_answer (counted (canonicalizing bytes.now (length out.old))) }
     ensures buffer { out.new ≡ stored out.old
         (canonicalizing bytes.now (length out.old)) }
@@ -132,8 +128,7 @@ pub extern "C" fn nachricht_canonicalize(bytes: &[u8], out: &mut [u8]) -> Answer
 }
 
 // Joins two bundles.
-#[unsafe(no_mangle)]
-pub extern "C" fn nachricht_join<'a>(first: &'a [u8], second: &'a [u8], out: &mut [u8]) -> Answer
+pub fn nachricht_join<'a>(first: &'a [u8], second: &'a [u8], out: &mut [u8]) -> Answer
     ensures answer { result ≡ count_answer
         (counted (joining lenient first.now second.now (length out.old))) }
     ensures buffer { out.new ≡ stored out.old
@@ -143,16 +138,14 @@ pub extern "C" fn nachricht_join<'a>(first: &'a [u8], second: &'a [u8], out: &mu
 }
 
 // Opens an envelope: the bundle's length. It begins after the length and the version, at offset 3.
-#[unsafe(no_mangle)]
-pub extern "C" fn nachricht_open(envelope: &[u8]) -> Answer
+pub fn nachricht_open(envelope: &[u8]) -> Answer
     ensures { result ≡ count_answer (counted (opening envelope.now)) }
 {
     written_of(envelope::bundle_len(envelope))
 }
 
 // Writes the envelope of a bundle.
-#[unsafe(no_mangle)]
-pub extern "C" fn nachricht_close(bundle: &[u8], out: &mut [u8]) -> Answer
+pub fn nachricht_close(bundle: &[u8], out: &mut [u8]) -> Answer
     ensures answer { result ≡ count_answer (counted (closing bundle.now (length out.old))) }
     ensures buffer { out.new ≡ stored out.old (closing bundle.now (length out.old)) }
 {
