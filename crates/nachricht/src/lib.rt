@@ -1,5 +1,6 @@
 // The calls of the C interface, which `nachricht_c` exports, with plain numbers for what they answer.
 #![tactic(auto)]
+
 ghost use Rattle.std.specs.Prelude.{◌≡◌, length};
 ghost use Rattle.format.specs.Answer.{counted, good, stored};
 ghost use Rattle.format.specs.Limits.{max_rows};

@@ -1,6 +1,7 @@
 // The walk over a bundle that reads, item by item: the row of the next item, where the one after it begins, and the
 // entries so far. It judges nothing.
 #![tactic(auto)]
+
 ghost use Rattle.std.specs.Prelude.{◌≡◌, List, ℕ, ◌+◌, ◌≤◌, ◌<◌, drop, get_or, set};
 ghost use Rattle.std.proofs.Math.Option.{some};
 ghost use Rattle.format.specs.Limits.{max_bytes, max_entries};

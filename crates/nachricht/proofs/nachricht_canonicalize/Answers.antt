@@ -6,6 +6,6 @@ use Rattle.nachricht.proofs.nachricht_canonicalize.Goals as goal
 
 pub returns : goal.returns
 returns c = record {
-      answer = c.written_of.ensures ∙ ap count_answer c.canonicalize.ensures.answer;
-      buffer = c.canonicalize.ensures.buffer;
-    }
+  answer = c.written_of.ensures ∙ ap count_answer c.canonicalize.ensures.answer;
+  buffer = c.canonicalize.ensures.buffer;
+}

@@ -6,6 +6,6 @@ use Rattle.nachricht.proofs.nachricht_close.Goals as goal
 
 pub returns : goal.returns
 returns c = record {
-      answer = c.written_of.ensures ∙ ap count_answer c.close.ensures.answer;
-      buffer = c.close.ensures.buffer;
-    }
+  answer = c.written_of.ensures ∙ ap count_answer c.close.ensures.answer;
+  buffer = c.close.ensures.buffer;
+}

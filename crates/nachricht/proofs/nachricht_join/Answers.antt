@@ -6,6 +6,6 @@ use Rattle.nachricht.proofs.nachricht_join.Goals as goal
 
 pub returns : goal.returns
 returns c = record {
-      answer = c.written_of.ensures ∙ ap count_answer c.join.ensures.answer;
-      buffer = c.join.ensures.buffer;
-    }
+  answer = c.written_of.ensures ∙ ap count_answer c.join.ensures.answer;
+  buffer = c.join.ensures.buffer;
+}

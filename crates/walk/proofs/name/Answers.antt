@@ -6,6 +6,6 @@ use Rattle.walk.proofs.name.Goals as goal
 
 pub returns : goal.returns
 returns c = record {
-      walked = c.content.ensures;
-      entered = ap (set c.args.table.now c.args.entries) c.plain_entry.ensures;
-    }
+  walked = c.content.ensures;
+  entered = ap (set c.args.table.now c.args.entries) c.plain_entry.ensures;
+}

@@ -36,16 +36,15 @@ slice_bounds-put_number-start c =
     ))
 
 pub put_number-requires : goal.put_number-requires
-put_number-requires c =
-    (
-      omega arith,
-      fixed-fits (record {
-        kind = c.args.kind;
-        number = c.args.number;
-        content = [];
-      }) c.args.out.now 4 c.requires.0
-          (following-single 0 _ refl c.if-kind-eq-FLOAT32.true) c.requires.1,
-    )
+put_number-requires c = (
+  omega arith,
+  fixed-fits (record {
+    kind = c.args.kind;
+    number = c.args.number;
+    content = [];
+  }) c.args.out.now 4 c.requires.0
+      (following-single 0 _ refl c.if-kind-eq-FLOAT32.true) c.requires.1,
+)
 
 pub shape_of-out-then-kind-eq-FLOAT32 : goal.shape_of-out-then-kind-eq-FLOAT32
 shape_of-out-then-kind-eq-FLOAT32 c =
@@ -82,16 +81,15 @@ slice_bounds-put_number-start-then-kind-eq-FLOAT64 c =
     ))
 
 pub put_number-requires-then-kind-eq-FLOAT64 : goal.put_number-requires-then-kind-eq-FLOAT64
-put_number-requires-then-kind-eq-FLOAT64 c =
-    (
-      omega arith,
-      fixed-fits (record {
-        kind = c.args.kind;
-        number = c.args.number;
-        content = [];
-      }) c.args.out.now 8 c.requires.0
-          (following_double 0 _ refl c.if-kind-eq-FLOAT64.true) c.requires.1,
-    )
+put_number-requires-then-kind-eq-FLOAT64 c = (
+  omega arith,
+  fixed-fits (record {
+    kind = c.args.kind;
+    number = c.args.number;
+    content = [];
+  }) c.args.out.now 8 c.requires.0
+      (following_double 0 _ refl c.if-kind-eq-FLOAT64.true) c.requires.1,
+)
 
 pub shape_of-out-then-kind-eq-FLOAT64 : goal.shape_of-out-then-kind-eq-FLOAT64
 shape_of-out-then-kind-eq-FLOAT64 c =

@@ -15,9 +15,9 @@ wasteful-requires c = one_byte c.args.s.now c.args.at _
 
 pub returns-then-wasteful : goal.returns-then-wasteful
 returns-then-wasteful c = record {
-      moves = tt;
-      judged = λ o x so hold d. waste o x _ _ so (sym c.wasteful.ensures ∙ c.if-wasteful.true);
-    }
+  moves = tt;
+  judged = λ o x so hold d. waste o x _ _ so (sym c.wasteful.ensures ∙ c.if-wasteful.true);
+}
 
 pub overflow_add-next : goal.overflow_add-next
 overflow_add-next c =

@@ -10,9 +10,9 @@ judge-requires c =
 
 pub returns-in-Cut : goal.returns-in-Cut
 returns-in-Cut c = record {
-      moves = tt;
-      judged = λ o a so hold d. cut o a _ (rw c.in-Cut.is at c.header_at.ensures);
-    }
+  moves = tt;
+  judged = λ o a so hold d. cut o a _ (rw c.in-Cut.is at c.header_at.ensures);
+}
 
 pub returns-in-Whole : goal.returns-in-Whole
 returns-in-Whole c =

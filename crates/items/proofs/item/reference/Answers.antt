@@ -8,10 +8,10 @@ use Rattle.items.proofs.item.reference.Goals as goal
 
 pub returns-then-names-p : goal.returns-then-names-p
 returns-then-names-p c = record {
-      moves = λ strict s links at depth m. tt;
-      judged = λ s o a bs at cs. reference_missing bs cs c.requires.0 c.requires.2
+  moves = λ strict s links at depth m. tt;
+  judged = λ s o a bs at cs. reference_missing bs cs c.requires.0 c.requires.2
       c.requires.1 (omega arith);
-    }
+}
 
 pub returns-then-not-is_key : goal.returns-then-not-is_key
 returns-then-not-is_key c =

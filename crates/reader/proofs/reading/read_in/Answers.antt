@@ -10,5 +10,5 @@ pub filled_in-requires : goal.filled_in-requires
 filled_in-requires c =
     let o : Options = options c.args.mode (length c.args.rows.now) in
     let count : c.count_of.result ≡ rows_in (counts o c.args.bytes.now) =
-        c.count_of.ensures ∙ ap rows_in c.counted-answer.ensures in
+    c.count_of.ensures ∙ ap rows_in c.counted-answer.ensures in
     record { o = o; count = count; room = counted-within o c.args.bytes.now count }

@@ -25,13 +25,12 @@ key_of-key-requires c =
     rw (c.of-len.ensures, c.kind_of-kind.ensures) (omega (arith, q.low), omega (arith, q.high), q.short)
 
 pub note-requires : goal.note-requires
-note-requires c =
-    (
-      c.requires.0.partway.measured.table,
-      rw (c.of-len.ensures, c.kind_of-kind.ensures)
-          (name_here c.requires).part,
-      c.key_of-key.ensures.0,
-    )
+note-requires c = (
+  c.requires.0.partway.measured.table,
+  rw (c.of-len.ensures, c.kind_of-kind.ensures)
+      (name_here c.requires).part,
+  c.key_of-key.ensures.0,
+)
 
 pub overflow_cast-to : goal.overflow_cast-to
 overflow_cast-to c = let g = rw c.in-Known.is at c.note.ensures in omega (arith, g.1)

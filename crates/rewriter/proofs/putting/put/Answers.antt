@@ -14,18 +14,17 @@ pub loop-w-init : goal.loop-w-init
 loop-w-init c = λ zs ws u old g p. put-start g p refl
 
 pub item-w-requires : goal.item-w-requires
-item-w-requires c =
-    (
-      record {
-        zs = c.requires.zs;
-        ws = c.requires.ws;
-        u = c.requires.u;
-        old = c.requires.old;
-        planning = c.requires.planning;
-        putting = c.loop-w.invariant _ _ _ _ c.requires.planning (put_as c.requires.put refl refl);
-      },
-      c.loop-w-test.true,
-    )
+item-w-requires c = (
+  record {
+    zs = c.requires.zs;
+    ws = c.requires.ws;
+    u = c.requires.u;
+    old = c.requires.old;
+    planning = c.requires.planning;
+    putting = c.loop-w.invariant _ _ _ _ c.requires.planning (put_as c.requires.put refl refl);
+  },
+  c.loop-w-test.true,
+)
 
 pub loop-w-smaller : goal.loop-w-smaller
 loop-w-smaller c =

@@ -7,6 +7,6 @@ use Rattle.rows.proofs.place.descend.Goals as goal
 pub returns : goal.returns
 unfolding opened_by
 returns c = record {
-      state = refl;
-      stored = refl;
-    }
+  state = refl;
+  stored = refl;
+}

@@ -28,15 +28,14 @@ pub bounds-entries-i : goal.bounds-entries-i
 bounds-entries-i c = omega arith
 
 pub is_name-requires : goal.is_name-requires
-is_name-requires c =
-    (
-      c.requires.0.table.sound (c.loop-v.v - 1)
-          (omega (arith, c.loop-v.invariant.within, c.loop-v-test.true)),
-      c.requires.1,
-      c.requires.2,
-      c.requires.3,
-      c.requires.4,
-    )
+is_name-requires c = (
+  c.requires.0.table.sound (c.loop-v.v - 1)
+      (omega (arith, c.loop-v.invariant.within, c.loop-v-test.true)),
+  c.requires.1,
+  c.requires.2,
+  c.requires.3,
+  c.requires.4,
+)
 
 pub returns-then-is_name : goal.returns-then-is_name
 returns-then-is_name c =

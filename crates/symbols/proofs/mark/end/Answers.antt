@@ -8,27 +8,25 @@ use borrow.Author.Rules.{rules}
 use Rattle.symbols.proofs.mark.end.Goals as goal
 
 pub returns-then-n-ge8 : goal.returns-then-n-ge8
-returns-then-n-ge8 c =
-    (
-      sym (end_eight c.args.h c.args.s.now (omega arith)
-          ∙ rw (
-            c.mix.ensures.0,
-            c.number-then-n-ge8-3.ensures,
-            c.number-then-n-ge8-2.ensures,
-            c.mix-g.ensures.0,
-            c.number-then-n-ge8.ensures,
-            c.number.ensures,
-          )),
-      c.mix.ensures.1,
-    )
+returns-then-n-ge8 c = (
+  sym (end_eight c.args.h c.args.s.now (omega arith)
+      ∙ rw (
+        c.mix.ensures.0,
+        c.number-then-n-ge8-3.ensures,
+        c.number-then-n-ge8-2.ensures,
+        c.mix-g.ensures.0,
+        c.number-then-n-ge8.ensures,
+        c.number.ensures,
+      )),
+  c.mix.ensures.1,
+)
 
 pub returns-then-n-ge4 : goal.returns-then-n-ge4
-returns-then-n-ge4 c =
-    (
-      sym (end_four c.args.h c.args.s.now (omega arith) (omega arith)
-          ∙ rw (c.mix-then-n-ge4.ensures.0, c.number-then-n-ge4-2.ensures, c.number-then-n-ge4.ensures)),
-      c.mix-then-n-ge4.ensures.1,
-    )
+returns-then-n-ge4 c = (
+  sym (end_four c.args.h c.args.s.now (omega arith) (omega arith)
+      ∙ rw (c.mix-then-n-ge4.ensures.0, c.number-then-n-ge4-2.ensures, c.number-then-n-ge4.ensures)),
+  c.mix-then-n-ge4.ensures.1,
+)
 
 pub returns-then-n-eq0 : goal.returns-then-n-eq0
 returns-then-n-eq0 c =

@@ -33,8 +33,7 @@ loop-i-smaller c = omega arith
 
 pub loop-i-preserved : goal.loop-i-preserved
 loop-i-preserved c =
-    let s = c.args.s.now in
-    (
+    let s = c.args.s.now in (
       omega arith,
       c.mix-h.ensures.1,
       c.loop-i.invariant.2 ∙ mark_eight s c.loop-i.i _ (omega arith)

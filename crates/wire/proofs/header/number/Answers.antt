@@ -24,14 +24,13 @@ overflow_add-p c =
     omega (arith, more c.loop-i.p (get_or c.args.s.now (c.args.a + c.loop-i.i) 0) c.loop-i.i c.loop-i.invariant.2 (omega (arith, c.shared_slice_known-1.given (c.args.a + c.loop-i.i))), most c.loop-i.i (omega arith))
 
 pub loop-i-preserved : goal.loop-i-preserved
-loop-i-preserved c =
-    (
-      omega arith,
-      ap (λ (x : ℕ). x * 256 + get_or c.args.s.now (c.args.a + c.loop-i.i) 0) c.loop-i.invariant.1
-          ∙ sym (big_endian-step c.args.s.now c.args.a c.loop-i.i (omega arith)),
-      more c.loop-i.p (get_or c.args.s.now (c.args.a + c.loop-i.i) 0) c.loop-i.i c.loop-i.invariant.2
-          (omega (arith, c.shared_slice_known-1.given (c.args.a + c.loop-i.i))),
-    )
+loop-i-preserved c = (
+  omega arith,
+  ap (λ (x : ℕ). x * 256 + get_or c.args.s.now (c.args.a + c.loop-i.i) 0) c.loop-i.invariant.1
+      ∙ sym (big_endian-step c.args.s.now c.args.a c.loop-i.i (omega arith)),
+  more c.loop-i.p (get_or c.args.s.now (c.args.a + c.loop-i.i) 0) c.loop-i.i c.loop-i.invariant.2
+      (omega (arith, c.shared_slice_known-1.given (c.args.a + c.loop-i.i))),
+)
 
 pub returns : goal.returns
 returns c = let e : c.loop-i.i ≡ c.args.n = omega arith in c.loop-i.invariant.1

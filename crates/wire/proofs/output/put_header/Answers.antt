@@ -66,12 +66,11 @@ slice_bounds-put_number-start c =
     simp length-set (omega (arith, length-long _ _ (long c.is_inline.ensures c.if-is_inline.false)))
 
 pub put_number-requires : goal.put_number-requires
-put_number-requires c =
-    (
-      omega (arith, c.width-k.ensures, (width_holds _ c.ranges.p.fits).most),
-      long-fits _ _ c.args.out.now c.requires.1 _ (long c.is_inline.ensures c.if-is_inline.false)
-          c.width-k.ensures,
-    )
+put_number-requires c = (
+  omega (arith, c.width-k.ensures, (width_holds _ c.ranges.p.fits).most),
+  long-fits _ _ c.args.out.now c.requires.1 _ (long c.is_inline.ensures c.if-is_inline.false)
+      c.width-k.ensures,
+)
 
 pub overflow_add-result : goal.overflow_add-result
 overflow_add-result c =

@@ -22,13 +22,12 @@ content-requires c = (
 )
 
 pub put_named-requires : goal.put_named-requires
-put_named-requires c =
-    (
-      omega (arith, kind-most c.args.text.now c.args.row c.requires.3),
-      rw (c.code_of.ensures, c.content.ensures)
-          (rw (at_name c.args.text.now c.args.row c.args.plan.now c.args.i
-          c.if-kind-ge-SYMBOL.true) at c.requires.4),
-    )
+put_named-requires c = (
+  omega (arith, kind-most c.args.text.now c.args.row c.requires.3),
+  rw (c.code_of.ensures, c.content.ensures)
+      (rw (at_name c.args.text.now c.args.row c.args.plan.now c.args.i
+      c.if-kind-ge-SYMBOL.true) at c.requires.4),
+)
 
 pub returns-then-kind-ge-SYMBOL : goal.returns-then-kind-ge-SYMBOL
 returns-then-kind-ge-SYMBOL c =
@@ -47,13 +46,12 @@ content-requires-then-has_content c = (
 )
 
 pub put_sized-requires : goal.put_sized-requires
-put_sized-requires c =
-    (
-      omega arith,
-      rw (c.code_of-then-has_content.ensures, c.content-then-has_content.ensures)
-          (rw (at-header c.args.text.now c.args.row c.args.plan.now c.args.i c.if-kind-lt-BYTES.false
-          c.if-kind-ge-SYMBOL.false) at c.requires.4),
-    )
+put_sized-requires c = (
+  omega arith,
+  rw (c.code_of-then-has_content.ensures, c.content-then-has_content.ensures)
+      (rw (at-header c.args.text.now c.args.row c.args.plan.now c.args.i c.if-kind-lt-BYTES.false
+      c.if-kind-ge-SYMBOL.false) at c.requires.4),
+)
 
 pub returns-then-has_content : goal.returns-then-has_content
 returns-then-has_content c =
@@ -65,14 +63,13 @@ returns-then-has_content c =
     c.put_sized.ensures
 
 pub put_header-requires : goal.put_header-requires
-put_header-requires c =
-    (
-      omega arith,
-      rw c.code_of-2.ensures
-          (rw (at_plain c.args.text.now c.args.row c.args.plan.now c.args.i
-          c.if-kind-lt-BYTES.false c.if-kind-ge-SYMBOL.false
-          (sym c.has_content.ensures ∙ c.if-has_content.false)) at c.requires.4),
-    )
+put_header-requires c = (
+  omega arith,
+  rw c.code_of-2.ensures
+      (rw (at_plain c.args.text.now c.args.row c.args.plan.now c.args.i
+      c.if-kind-lt-BYTES.false c.if-kind-ge-SYMBOL.false
+      (sym c.has_content.ensures ∙ c.if-has_content.false)) at c.requires.4),
+)
 
 pub returns : goal.returns
 returns c =
