@@ -1,4 +1,4 @@
-//! Links the proved library: of `NACHRICHT_LIB_DIR`, or as `rt staticlib nachricht` writes it in the repository root.
+//! Links the proved library: of `NACHRICHT_LIB_DIR`, or as `bindings/build` writes it.
 
 use std::env;
 use std::path::{Path, PathBuf};
@@ -10,7 +10,7 @@ fn main() {
     let library = folder.join("libnachricht.a");
     if !library.exists() {
         let library = library.display();
-        println!("cargo:warning={library} is missing: `rt staticlib nachricht` builds it, {FOLDER} names its folder");
+        println!("cargo:warning={library} is missing: `bindings/build` builds it, {FOLDER} names its folder");
     }
     println!("cargo:rerun-if-env-changed={FOLDER}");
     println!("cargo:rerun-if-changed={}", library.display());
