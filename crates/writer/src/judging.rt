@@ -1,4 +1,4 @@
-// All rows judged: by hand, since it reads a slice of structs.
+// All rows judged, one after the other.
 ghost use Rattle.std.specs.Prelude.{◌≡◌, ◌≤◌, ◌<◌, length, take};
 ghost use Rattle.format.specs.Limits.{max_bytes, max_rows};
 ghost use Rattle.rows.specs.Plan.{plan_size};

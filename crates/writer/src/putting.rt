@@ -52,7 +52,7 @@ fn put_next(
     at + put_row(&mut out[at..], text, plan, i, row)
 }
 
-// The first n rows: by hand, since it reads a slice of structs.
+// The first n rows.
 pub fn put(rows: &[Row], text: &[u8], plan: &[u16; Plan::SIZE], out: &mut [u8], n: usize)
     requires { (n ≤ length rows.now) × Putting text.now plan.now (take n rows.now) (length out.old) }
     ensures { out.new ≡ stored out.old

@@ -1,6 +1,7 @@
 -- `name` judges a name in full, and what the table says of it. Assumes nothing.
 use native.Mathlib.Omega.{arith}
-use mathlib.Core.Path.{refl, sym, ◌∙◌}
+use mathlib.Core.Bool.{not}
+use mathlib.Core.Path.{refl, sym, ap, ◌∙◌}
 use Rattle.format.specs.Item.{is_key}
 use Rattle.items.proofs.Contents.{content-again, content-cut, content-text, name-text, name_moves, name_judged, name-plain, fair-plain}
 use borrow.Author.Rules.{rules}
@@ -36,7 +37,7 @@ returns-then-not-is_utf8_name c =
       judged = λ o a at so cs. content-text cs _ c.of-len.ensures _
           c.requires.0.form (name-plain c.requires.0) (sym k ∙ c.if-key_after_key.false)
           c.if-s-next.false
-          (name-text c.args.s.now c.args.next _ c.requires.0 c.is_utf8_name.ensures ∙ c.if-not-is_utf8_name.true-raw);
+          (name-text c.args.s.now c.args.next _ c.requires.0 c.is_utf8_name.ensures ∙ ap not c.if-not-is_utf8_name.true);
     }
 
 pub new_name-requires : goal.new_name-requires
@@ -50,7 +51,7 @@ returns-then-strict c =
       moves = λ at depth l. name_moves c.if-strict.true at depth (omega arith) (omega arith) entered;
       judged = λ o a at so cs. name_judged c.requires.0 (so ∙ c.if-strict.true) cs _ c.of-len.ensures c.requires.3.size
           c.requires.3.few (sym k ∙ c.if-key_after_key.false) c.if-s-next.false (name-text c.args.s.now c.args.next _ c.requires.0
-          c.is_utf8_name.ensures ∙ c.if-not-is_utf8_name.false-raw) entered;
+          c.is_utf8_name.ensures ∙ ap not c.if-not-is_utf8_name.false) entered;
     }
 
 pub any_name-requires : goal.any_name-requires
@@ -66,5 +67,5 @@ returns c =
       judged = λ o a at so cs. name_judged c.requires.0 (so ∙ c.if-strict.false) cs _ c.of-len.ensures
           c.requires.3.size c.requires.3.few (sym k ∙ c.if-key_after_key.false) c.if-s-next.false
           (name-text c.args.s.now c.args.next _ c.requires.0
-          c.is_utf8_name.ensures ∙ c.if-not-is_utf8_name.false-raw) entered;
+          c.is_utf8_name.ensures ∙ ap not c.if-not-is_utf8_name.false) entered;
     }

@@ -15,7 +15,7 @@ returns-then-names-p c = record {
 
 pub returns-then-not-is_key : goal.returns-then-not-is_key
 returns-then-not-is_key c =
-    let z = sym c.is_key.ensures ∙ not-true _ c.if-not-is_key.true-raw in
+    let z = sym c.is_key.ensures ∙ c.if-not-is_key.true in
     record {
       moves = λ strict s links at depth m. m;
       judged = λ s o a bs at cs. reference-value bs cs c.requires.0 c.requires.2 c.requires.1 (omega arith) _ refl z;
@@ -23,7 +23,7 @@ returns-then-not-is_key c =
 
 pub returns-then-keyed-eq1 : goal.returns-then-keyed-eq1
 returns-then-keyed-eq1 c =
-    let z = sym c.is_key.ensures ∙ not-false _ c.if-not-is_key.false-raw in
+    let z = sym c.is_key.ensures ∙ c.if-not-is_key.false in
     record {
       moves = λ strict s links at depth m. tt;
       judged = λ s o a bs at cs. reference-again bs cs c.requires.0 c.requires.2 c.requires.1 (omega arith) _ refl z c.if-keyed-eq1.true;
@@ -31,7 +31,7 @@ returns-then-keyed-eq1 c =
 
 pub returns : goal.returns
 returns c =
-    let z = sym c.is_key.ensures ∙ not-false _ c.if-not-is_key.false-raw in
+    let z = sym c.is_key.ensures ∙ c.if-not-is_key.false in
     record {
       moves = λ strict s links at depth m. m;
       judged = λ s o a bs at cs. reference-key bs cs c.requires.0 c.requires.2 c.requires.1 (omega arith) _ refl z c.if-keyed-eq1.false;

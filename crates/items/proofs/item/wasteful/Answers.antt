@@ -15,12 +15,12 @@ returns-then-not-strict c = rw c.if-not-strict.true
 
 pub returns-then-is_long : goal.returns-then-is_long
 unfolding is_negative_alias
-returns-then-is_long c = rw (not-false c.args.strict c.if-not-strict.false-raw, sym c.is_long.ensures ∙ c.if-is_long.true)
+returns-then-is_long c = rw (c.if-not-strict.false, sym c.is_long.ensures ∙ c.if-is_long.true)
 
 pub returns-then-code-eq-NEGATIVE : goal.returns-then-code-eq-NEGATIVE
 unfolding is_negative_alias
 returns-then-code-eq-NEGATIVE c = rw (
-  not-false c.args.strict c.if-not-strict.false-raw,
+  c.if-not-strict.false,
   sym c.is_long.ensures ∙ c.if-is_long.false,
   eqb_yes c.if-code-eq-NEGATIVE.true,
 )
@@ -28,7 +28,7 @@ returns-then-code-eq-NEGATIVE c = rw (
 pub returns : goal.returns
 unfolding is_negative_alias
 returns c = rw (
-  not-false c.args.strict c.if-not-strict.false-raw,
+  c.if-not-strict.false,
   sym c.is_long.ensures ∙ c.if-is_long.false,
   eqb_no c.if-code-eq-NEGATIVE.false,
 )

@@ -26,7 +26,7 @@ returns-then-not-is_utf8 c = λ xs a.
     refuse_text_next a c.args.row c.content-part.ensures c.refuse_text.ensures
     (name_invalid a c.args.row w.name w.fine w.alone
     (ap not (ap utf8 (sym c.content-part.ensures)
-    ∙ sym c.is_utf8.ensures) ∙ c.if-not-is_utf8.true-raw))
+    ∙ sym c.is_utf8.ensures) ∙ ap not c.if-not-is_utf8.true))
 
 pub key_of-key-requires : goal.key_of-key-requires
 key_of-key-requires c = let w = name-stands c.args.text.now
@@ -62,7 +62,7 @@ pub returns-in-Entered : goal.returns-in-Entered
 returns-in-Entered c =
     λ xs a.
     let n = rw c.in-Entered.is at c.note.ensures in
-    let u = ap utf8 (sym c.content-part.ensures) ∙ sym c.is_utf8.ensures ∙ not-false c.if-not-is_utf8.false-raw in
+    let u = ap utf8 (sym c.content-part.ensures) ∙ sym c.is_utf8.ensures ∙ c.if-not-is_utf8.false in
     fresh-next a c.args.row c.requires.1 c.requires.0 _ _ c.content-part.ensures u n c.fresh.ensures.state c.fresh.ensures.planned
 
 pub returns-in-Full : goal.returns-in-Full
@@ -72,6 +72,6 @@ returns-in-Full c = λ xs a.
     let n = rw c.in-Full.is at c.note.ensures in
     let u = ap utf8 (sym c.content-part.ensures)
     ∙ sym c.is_utf8.ensures
-    ∙ not-false c.if-not-is_utf8.false-raw in
+    ∙ c.if-not-is_utf8.false in
     let e = looked_up a r w c.requires.0 c.content-part.ensures n.0 in
     refuse_next a r too_many_entries c.refuse.ensures (fresh-full a r w.name w.fine w.alone (among a r w c.requires.0 e) u n.1)

@@ -35,43 +35,43 @@ returns-then-n-eq0 c =
 pub overflow_cast-v : goal.overflow_cast-v
 overflow_cast-v c =
     let s = c.args.s.now in
-    let b = c.shared_slice_known-1.given in
+    let b = c.type_inv.s in
     omega (arith, b 0, b (length s / 2), b (length s - 1))
 
 pub overflow_mul-v : goal.overflow_mul-v
 overflow_mul-v c =
     let s = c.args.s.now in
-    let b = c.shared_slice_known-1.given in
+    let b = c.type_inv.s in
     omega (arith, b 0, b (length s / 2), b (length s - 1))
 
 pub overflow_cast-v-2 : goal.overflow_cast-v-2
 overflow_cast-v-2 c =
     let s = c.args.s.now in
-    let b = c.shared_slice_known-1.given in
+    let b = c.type_inv.s in
     omega (arith, b 0, b (length s / 2), b (length s - 1))
 
 pub overflow_add-v : goal.overflow_add-v
 overflow_add-v c =
     let s = c.args.s.now in
-    let b = c.shared_slice_known-1.given in
+    let b = c.type_inv.s in
     omega (arith, b 0, b (length s / 2), b (length s - 1))
 
 pub overflow_mul-v-2 : goal.overflow_mul-v-2
 overflow_mul-v-2 c =
     let s = c.args.s.now in
-    let b = c.shared_slice_known-1.given in
+    let b = c.type_inv.s in
     omega (arith, b 0, b (length s / 2), b (length s - 1))
 
 pub overflow_cast-v-3 : goal.overflow_cast-v-3
 overflow_cast-v-3 c =
     let s = c.args.s.now in
-    let b = c.shared_slice_known-1.given in
+    let b = c.type_inv.s in
     omega (arith, b 0, b (length s / 2), b (length s - 1))
 
 pub overflow_add-v-2 : goal.overflow_add-v-2
 overflow_add-v-2 c =
     let s = c.args.s.now in
-    let b = c.shared_slice_known-1.given in
+    let b = c.type_inv.s in
     omega (arith, b 0, b (length s / 2), b (length s - 1))
 
 pub returns : goal.returns

@@ -14,14 +14,14 @@ loop-i-init c = (search rules, refl, omega arith)
 
 pub overflow_mul-p : goal.overflow_mul-p
 overflow_mul-p c =
-    omega (arith, more c.loop-i.p (get_or c.args.s.now (c.args.a + c.loop-i.i) 0) c.loop-i.i c.loop-i.invariant.2 (omega (arith, c.shared_slice_known-1.given (c.args.a + c.loop-i.i))), most c.loop-i.i (omega arith))
+    omega (arith, more c.loop-i.p (get_or c.args.s.now (c.args.a + c.loop-i.i) 0) c.loop-i.i c.loop-i.invariant.2 (omega (arith, c.type_inv.s (c.args.a + c.loop-i.i))), most c.loop-i.i (omega arith))
 
 pub overflow_cast-p : goal.overflow_cast-p
-overflow_cast-p c = omega (arith, c.shared_slice_known-1.given (c.args.a + c.loop-i.i))
+overflow_cast-p c = omega (arith, c.type_inv.s (c.args.a + c.loop-i.i))
 
 pub overflow_add-p : goal.overflow_add-p
 overflow_add-p c =
-    omega (arith, more c.loop-i.p (get_or c.args.s.now (c.args.a + c.loop-i.i) 0) c.loop-i.i c.loop-i.invariant.2 (omega (arith, c.shared_slice_known-1.given (c.args.a + c.loop-i.i))), most c.loop-i.i (omega arith))
+    omega (arith, more c.loop-i.p (get_or c.args.s.now (c.args.a + c.loop-i.i) 0) c.loop-i.i c.loop-i.invariant.2 (omega (arith, c.type_inv.s (c.args.a + c.loop-i.i))), most c.loop-i.i (omega arith))
 
 pub loop-i-preserved : goal.loop-i-preserved
 loop-i-preserved c = (
@@ -29,7 +29,7 @@ loop-i-preserved c = (
   ap (λ (x : ℕ). x * 256 + get_or c.args.s.now (c.args.a + c.loop-i.i) 0) c.loop-i.invariant.1
       ∙ sym (big_endian-step c.args.s.now c.args.a c.loop-i.i (omega arith)),
   more c.loop-i.p (get_or c.args.s.now (c.args.a + c.loop-i.i) 0) c.loop-i.i c.loop-i.invariant.2
-      (omega (arith, c.shared_slice_known-1.given (c.args.a + c.loop-i.i))),
+      (omega (arith, c.type_inv.s (c.args.a + c.loop-i.i))),
 )
 
 pub returns : goal.returns

@@ -7,7 +7,7 @@ use Rattle.wire.proofs.Powers.{first-bytes}
 use Rattle.wire.proofs.header.payload.Goals as goal
 
 pub overflow_cast-result : goal.overflow_cast-result
-overflow_cast-result c = omega (arith, c.shared_slice_known-then-n-eq1-1.given c.args.a)
+overflow_cast-result c = omega (arith, c.type_inv.s c.args.a)
 
 pub returns-then-n-eq1 : goal.returns-then-n-eq1
 returns-then-n-eq1 c = big_endian_one c.args.s.now c.args.a _
@@ -17,5 +17,5 @@ pub returns : goal.returns
 returns c =
     ap (λ (x : ℕ). x / 2 ^ (8 * (c.span-m.result - c.args.n))) c.number.ensures
     ∙ first-bytes c.args.s.now c.args.a c.args.n c.span-m.result
-    (λ i. omega (arith, c.shared_slice_known-1.given i))
+    (λ i. omega (arith, c.type_inv.s i))
     (omega (arith, c.span-m.ensures)) c.span-m.ensures.0
