@@ -13,7 +13,6 @@ use Rattle.format.specs.declared.row.Row.{Row}
 use Rattle.format.specs.declared.error.Error.{Error}
 use Rattle.format.specs.declared.error.Error.TheVariants.{InvalidRow, InvalidUtf8, NotCanonical, OutputTooLong, TooDeep, TooLong, TooManyEntries, TooManyRows, Truncated, UndefinedReference, UnexpectedKey}
 use Rattle.format.specs.Choice.{pick}
-use Rattle.format.specs.Limits.{max_bytes, max_rows}
 use Rattle.format.specs.Error.{code_of}
 use Rattle.format.specs.Answer.{Answer, Failure, Rule, fail, failed, failure, first, good, rule, then, unless}
 use Rattle.format.specs.Kind as Kind
@@ -26,7 +25,7 @@ use Rattle.format.specs.Rows.{content_of, item_at}
 use Rattle.format.specs.Canonical.{canonical}
 use Rattle.format.specs.Writing.{Progress, begin, fitted, judge, row_rules, with_item, writing}
 use Rattle.format.specs.Laws.{BadItem, BadRow, Passes, RefusedReadingLaw, RefusedWritingLaw, Stops, first as at-start, next}
-use Rattle.format.proofs.Tests.{and-true, cases, clash, failed-good, failed_inj, leb-true, ltb-false, none-some, order, pick_no, pick_yes, some_inj}
+use Rattle.format.proofs.Tests.{cases, clash, failed-good, failed_inj, leb-true, ltb-false, none-some, order, pick_no, pick_yes, some_inj}
 use Rattle.format.proofs.Headers.{size-within}
 use Rattle.format.proofs.Steps.{item-step, run_end, run-failed, run-to, step_forward}
 use Rattle.format.proofs.Utf8.{utf8_law}

@@ -10,11 +10,11 @@ use lib.Dec.{leb, ltb, eqb}
 use lib.ListN.{length, take, drop, length-append, length-drop}
 use lib.Seq.{drop-drop}
 use Rattle.format.specs.declared.header.Header.{Header}
-use Rattle.format.specs.declared.error.Error.TheVariants.{InvalidUtf8, NotCanonical, TooManyEntries, Truncated, UnexpectedKey}
+use Rattle.format.specs.declared.error.Error.TheVariants.{NotCanonical, TooManyEntries, Truncated, UnexpectedKey}
 use Rattle.format.specs.Choice.{pick}
 use Rattle.format.specs.Limits.{max_entries}
 use Rattle.format.specs.Answer.{fail}
-use Rattle.format.specs.Utf8.{bad_at, utf8}
+use Rattle.format.specs.Utf8.{utf8}
 use Rattle.format.specs.Item.{is_key, is_name, is_text}
 use Rattle.format.specs.Names.{index, is_some}
 use Rattle.format.specs.Place.{Place, key_after_key, is_too_deep, moved}

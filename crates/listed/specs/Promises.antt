@@ -1,7 +1,6 @@
 -- What the functions promise, as their contracts cite it.
 use Rattle.std.specs.Prelude.{◌≡◌, List, ℕ, length, replicate}
 use Rattle.format.specs.declared.bundle.Bundle.{Bundle}
-use Rattle.format.specs.declared.row.Row.{Row}
 use Rattle.format.specs.Limits.{max_rows}
 use Rattle.format.specs.Answer.{Answer, outcome_of, stored}
 use Rattle.format.specs.Reading.{counts, lenient}

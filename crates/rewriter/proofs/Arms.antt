@@ -20,7 +20,7 @@ use Rattle.format.proofs.Tests.{cases, clash, equal, order, eqb_yes, eqb-true, l
 use Rattle.format.proofs.Headers.{following-none, header-size, header-inside}
 use Rattle.format.proofs.Forms.{form-bytes, form-text}
 use Rattle.format.proofs.Turns.{Turn, form-read, flat_ends, flat_kept, fixed-is, content-is, content-inside, content-ends, content-kept}
-use Rattle.format.proofs.Encoding.{full-other, no_name}
+use Rattle.format.proofs.Encoding.{full-other}
 use Rattle.format.proofs.Names.{item_path}
 use Rattle.symbols.specs.Entry.{name}
 use Rattle.wire.specs.Numbers.{number_of}

@@ -4,7 +4,6 @@ use Rattle.format.specs.Answer.{fail}
 use Rattle.reader.specs.declared.checking.Checked.{Checked}
 use Rattle.reader.specs.Answers.{answer_of}
 use Rattle.nachricht.specs.Answers.{counts_answer}
-use borrow.Author.Rules.{rules}
 use Rattle.nachricht.proofs.answer_of.Goals as goal
 
 pub returns-in-Failed : goal.returns-in-Failed

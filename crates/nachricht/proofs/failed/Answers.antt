@@ -1,6 +1,5 @@
 -- `nachricht::failed` meets its contract. Assumes nothing.
 use Rattle.nachricht.specs.Answers.{failed_answer}
-use borrow.Author.Rules.{rules}
 use Rattle.nachricht.proofs.failed.Goals as goal
 
 pub returns : goal.returns

@@ -1,7 +1,6 @@
 -- `nachricht::nachricht_canonicalize` meets its contract: `canonicalize` and what its answer means. Assumes nothing.
 use mathlib.Core.Path.{ap, ◌∙◌}
 use Rattle.nachricht.specs.Answers.{count_answer}
-use borrow.Author.Rules.{rules}
 use Rattle.nachricht.proofs.nachricht_canonicalize.Goals as goal
 
 pub returns : goal.returns

@@ -4,7 +4,6 @@ use Rattle.format.specs.declared.error.Mode.{Mode}
 use Rattle.format.specs.Limits.{max_rows}
 use Rattle.format.specs.Reading.{options, counts}
 use Rattle.nachricht.specs.Answers.{counts_answer}
-use borrow.Author.Rules.{rules}
 use Rattle.nachricht.proofs.nachricht_check.Goals as goal
 
 -- src/lib.rt:58:1

@@ -1,7 +1,6 @@
 -- `nachricht::nachricht_close` meets its contract: `close` and what its answer means. Assumes nothing.
 use mathlib.Core.Path.{ap, ◌∙◌}
 use Rattle.nachricht.specs.Answers.{count_answer}
-use borrow.Author.Rules.{rules}
 use Rattle.nachricht.proofs.nachricht_close.Goals as goal
 
 pub returns : goal.returns

@@ -4,7 +4,6 @@ use Rattle.format.specs.Answer.{fail}
 use Rattle.format.specs.declared.written.Written.{Written}
 use Rattle.format.specs.Written.{answer_of}
 use Rattle.nachricht.specs.Answers.{count_answer}
-use borrow.Author.Rules.{rules}
 use Rattle.nachricht.proofs.written_of.Goals as goal
 
 pub returns-in-Failed : goal.returns-in-Failed

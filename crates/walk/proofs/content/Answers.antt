@@ -1,6 +1,5 @@
 -- `content` goes past the content, and its row has where it starts. Assumes nothing.
 use mathlib.Core.Path.{refl}
-use borrow.Author.Rules.{rules}
 use Rattle.walk.proofs.content.Goals as goal
 
 pub returns : goal.returns

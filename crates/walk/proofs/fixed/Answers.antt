@@ -1,6 +1,5 @@
 -- `fixed` makes the row of a kind and a number. Assumes nothing.
 use mathlib.Core.Path.{refl}
-use borrow.Author.Rules.{rules}
 use Rattle.walk.proofs.fixed.Goals as goal
 
 pub returns : goal.returns

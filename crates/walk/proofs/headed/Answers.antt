@@ -6,7 +6,6 @@ use Rattle.format.specs.Reading.{content}
 use Rattle.format.proofs.Forms.{form-bytes, form-container, form-reference, form-text}
 use Rattle.wire.proofs.CodeLaws.{code-within, form-number, is_zero}
 use Rattle.walk.proofs.Steps.{near, form_small, fixed_on, reference-small, reference-on, content-small, content-on, name-few, name-on}
-use borrow.Author.Rules.{rules}
 use Rattle.walk.proofs.headed.Goals as goal
 
 pub overflow_add-next : goal.overflow_add-next

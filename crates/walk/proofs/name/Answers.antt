@@ -1,7 +1,6 @@
 -- `name` makes an entry, and goes past the content. Assumes nothing.
 use mathlib.Core.Path.{ap}
 use lib.ListN.{set}
-use borrow.Author.Rules.{rules}
 use Rattle.walk.proofs.name.Goals as goal
 
 pub returns : goal.returns

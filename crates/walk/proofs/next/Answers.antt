@@ -1,6 +1,5 @@
 -- `next` is the item of the header at the offset, and there is one. Assumes nothing.
 use Rattle.walk.proofs.Steps.{whole}
-use borrow.Author.Rules.{rules}
 use Rattle.walk.proofs.next.Goals as goal
 
 pub headed-requires : goal.headed-requires

@@ -1,10 +1,8 @@
 -- `ascii::number::put_decimal` meets its contract: one digit, two, or those of a hundredth and then the last two. The
 -- number falls. Assumes nothing.
 use native.Mathlib.Omega.{arith}
-use borrow.Author.Rules.{rules}
 use Rattle.ascii.proofs.Writing.{room, next_byte, ends}
 use Rattle.ascii.proofs.Decimals.{one_digit, two_digits, hundredth_fits, last_digits}
-use Prim.Native.Nat.{ℕ, ◌<◌}
 use Rattle.ascii.proofs.number.+put_decimal.Goals as goal
 
 pub bounds-out-0 : goal.bounds-out-0

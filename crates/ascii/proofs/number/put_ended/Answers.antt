@@ -3,7 +3,6 @@ use mathlib.Core.List.{[], ◌∷◌}
 use native.Mathlib.Omega.{arith}
 use Rattle.ascii.specs.Text.{decimal, ended}
 use Rattle.ascii.proofs.Writing.{first_fits, first, room, next_byte, ends}
-use borrow.Author.Rules.{rules}
 use Rattle.ascii.proofs.number.put_ended.Goals as goal
 
 pub put_decimal-at-requires : goal.put_decimal-at-requires

@@ -2,7 +2,6 @@
 use native.Mathlib.Omega.{arith}
 use Rattle.ascii.proofs.Writing.{room, fits, next, ends}
 use Rattle.ascii.proofs.Labels.{word_fits, word-put}
-use borrow.Author.Rules.{rules}
 use Rattle.ascii.proofs.number.put_labelled.Goals as goal
 
 pub copy-at-requires : goal.copy-at-requires

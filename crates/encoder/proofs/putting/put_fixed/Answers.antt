@@ -6,7 +6,6 @@ use lib.ListN.{length-set}
 use Rattle.format.proofs.Headers.{following-single, following_double, following-small}
 use Rattle.encoder.proofs.Lengths.{length-fixed}
 use Rattle.encoder.proofs.OutputLaws.{fixed-fits, fixed_wrote, fixed-puts, lead_puts}
-use borrow.Author.Rules.{rules}
 use Rattle.encoder.proofs.putting.put_fixed.Goals as goal
 
 pub bounds-out-0 : goal.bounds-out-0

@@ -1,7 +1,6 @@
 -- `encoder::putting::put_named` meets its contract: a reference, or the name in full. Assumes nothing.
 use native.Mathlib.Omega.{arith}
 use Rattle.encoder.proofs.OutputLaws.{by_reference, in_full}
-use borrow.Author.Rules.{rules}
 use Rattle.encoder.proofs.putting.put_named.Goals as goal
 
 pub put_header-requires : goal.put_header-requires

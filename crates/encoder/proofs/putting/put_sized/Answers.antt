@@ -4,7 +4,6 @@ use native.Mathlib.Omega.{arith}
 use lib.ListN.{length-append}
 use Rattle.format.specs.Header.{header}
 use Rattle.wire.proofs.Wrote.{finish_all, both-start, both-fits, both_wrote}
-use borrow.Author.Rules.{rules}
 use Rattle.encoder.proofs.putting.put_sized.Goals as goal
 
 pub put_header-n-requires : goal.put_header-n-requires

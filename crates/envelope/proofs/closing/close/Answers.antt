@@ -1,7 +1,6 @@
 -- `envelope::closing::close` meets its contract: the length, the version, the bundle. Assumes nothing.
 use native.Mathlib.Omega.{arith}
 use Rattle.envelope.proofs.ClosingLaws.{closes_long, closes_short, led, bundle-fits, wrote, closes}
-use borrow.Author.Rules.{rules}
 use Rattle.envelope.proofs.closing.close.Goals as goal
 
 pub returns-then-n-gt-MAX_BYTES : goal.returns-then-n-gt-MAX_BYTES

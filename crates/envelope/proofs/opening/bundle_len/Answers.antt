@@ -2,7 +2,6 @@
 use native.Mathlib.Omega.{arith}
 use mathlib.Core.Path.{◌∙◌}
 use Rattle.envelope.proofs.OpeningLaws.{counted-length, counts-nothing, fails, no_length, opened, other-version, too_few, too_long}
-use borrow.Author.Rules.{rules}
 use Rattle.envelope.proofs.opening.bundle_len.Goals as goal
 
 pub returns-then-bytes-lt-LENGTH_SIZE : goal.returns-then-bytes-lt-LENGTH_SIZE

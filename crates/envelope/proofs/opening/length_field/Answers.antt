@@ -1,6 +1,5 @@
 -- `envelope::opening::length_field` meets its contract. Assumes nothing.
 use Rattle.envelope.proofs.OpeningLaws.{length_field_lem}
-use borrow.Author.Rules.{rules}
 use Rattle.envelope.proofs.opening.length_field.Goals as goal
 
 pub returns : goal.returns

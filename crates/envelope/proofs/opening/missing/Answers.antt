@@ -2,7 +2,6 @@
 use native.Mathlib.Omega.{arith}
 use mathlib.Core.Path.{sym, ◌∙◌}
 use Rattle.envelope.proofs.Laws.{missing_length, missing_nothing, missing_rest}
-use borrow.Author.Rules.{rules}
 use Rattle.envelope.proofs.opening.missing.Goals as goal
 
 pub returns-then-bytes-lt-LENGTH_SIZE : goal.returns-then-bytes-lt-LENGTH_SIZE

@@ -4,7 +4,6 @@ use native.Mathlib.Nat.{add-sub_cancel_left}
 use mathlib.Core.Path.{ap, sym}
 use Rattle.envelope.specs.Answers.{bundle_in}
 use Rattle.envelope.proofs.OpeningLaws.{opens, opens_nothing}
-use borrow.Author.Rules.{rules}
 use Rattle.envelope.proofs.opening.open.Goals as goal
 
 pub overflow_add-result : goal.overflow_add-result

@@ -2,7 +2,6 @@
 use native.Mathlib.Omega.{arith}
 use mathlib.Core.Path.{refl}
 use Rattle.items.proofs.NameEntry.{plain-full, plain-entered}
-use borrow.Author.Rules.{rules}
 use Rattle.items.proofs.item.any_name.Goals as goal
 
 pub returns-then-names-ge-MAX_ENTRIES : goal.returns-then-names-ge-MAX_ENTRIES

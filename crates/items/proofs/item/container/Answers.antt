@@ -2,7 +2,6 @@
 use native.Mathlib.Omega.{arith}
 use mathlib.Core.Path.{sym, ◌∙◌}
 use Rattle.items.proofs.Flat.{container-deep, container_empty, container-held}
-use borrow.Author.Rules.{rules}
 use Rattle.items.proofs.item.container.Goals as goal
 
 pub returns-then-depth-eq0 : goal.returns-then-depth-eq0

@@ -2,7 +2,6 @@
 use native.Mathlib.Omega.{arith}
 use mathlib.Core.Path.{◌∙◌}
 use Rattle.items.proofs.Contents.{content-cut, content-text, content-value, body_key, body_text}
-use borrow.Author.Rules.{rules}
 use Rattle.items.proofs.item.content.Goals as goal
 
 pub returns-then-s-next : goal.returns-then-s-next

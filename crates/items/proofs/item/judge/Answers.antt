@@ -6,7 +6,6 @@ use Rattle.items.proofs.Flat.{fixed-value, plain-small, plain-integer}
 use Rattle.items.proofs.Contents.{body_bytes, body_string, name_of}
 use Rattle.items.proofs.Heads.{standing, one_byte, past_header, case}
 use Rattle.wire.proofs.CodeLaws.{is_zero}
-use borrow.Author.Rules.{rules}
 use Rattle.items.proofs.item.judge.Goals as goal
 
 pub wasteful-requires : goal.wasteful-requires

@@ -4,7 +4,6 @@ use mathlib.Core.Bool.{not}
 use mathlib.Core.Path.{refl, sym, ap, ◌∙◌}
 use Rattle.format.specs.Item.{is_key}
 use Rattle.items.proofs.Contents.{content-again, content-cut, content-text, name-text, name_moves, name_judged, name-plain, fair-plain}
-use borrow.Author.Rules.{rules}
 use Rattle.items.proofs.item.name.Goals as goal
 
 pub kind_of-kind-requires : goal.kind_of-kind-requires

@@ -2,7 +2,6 @@
 use native.Mathlib.Omega.{arith}
 use mathlib.Core.Path.{refl}
 use Rattle.items.proofs.NameEntry.{stands, strict-known, strict-full, strict-entered}
-use borrow.Author.Rules.{rules}
 use Rattle.items.proofs.item.new_name.Goals as goal
 
 pub note-requires : goal.note-requires

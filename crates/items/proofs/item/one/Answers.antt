@@ -1,7 +1,6 @@
 -- `one` judges an item by its header, if that is whole. Assumes nothing.
 use Rattle.items.proofs.Ladder.{cut}
 use Rattle.items.proofs.Heads.{judged_item}
-use borrow.Author.Rules.{rules}
 use Rattle.items.proofs.item.one.Goals as goal
 
 pub judge-requires : goal.judge-requires

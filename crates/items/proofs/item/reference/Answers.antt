@@ -2,8 +2,6 @@
 use native.Mathlib.Omega.{arith}
 use mathlib.Core.Path.{refl, sym, ◌∙◌}
 use Rattle.items.proofs.Flat.{reference_missing, reference-value, reference-again, reference-key}
-use borrow.Author.Rules.{rules}
-use borrow.Author.Tests.{not-true, not-false}
 use Rattle.items.proofs.item.reference.Goals as goal
 
 pub returns-then-names-p : goal.returns-then-names-p

@@ -3,8 +3,6 @@ use mathlib.Core.Path.{sym, ◌∙◌}
 use mathlib.Core.Bool.{and-false}
 use Rattle.format.specs.Header.{is_negative_alias}
 use Rattle.format.proofs.Tests.{eqb_yes, eqb_no}
-use borrow.Author.Tests.{not-true, not-false}
-use borrow.Author.Rules.{rules}
 use Rattle.items.proofs.item.wasteful.Goals as goal
 
 pub returns-then-size-eq1 : goal.returns-then-size-eq1

@@ -1,6 +1,5 @@
 -- `joiner::joining::canonicalize` meets its contract: merging with the empty bundle. Assumes nothing.
 use Rattle.joiner.proofs.JoinLaws.{reads, with_empty, unread-alone, canonicalized}
-use borrow.Author.Rules.{rules}
 use Rattle.joiner.proofs.joining.canonicalize.Goals as goal
 
 pub merge-requires : goal.merge-requires

@@ -1,7 +1,6 @@
 -- `joiner::joining::join` meets its contract: by what checking both bundles says. Assumes nothing.
 use native.Mathlib.Omega.{arith}
 use Rattle.joiner.proofs.JoinLaws.{reads, reads-few, both, unread_first, unread_second}
-use borrow.Author.Rules.{rules}
 use Rattle.joiner.proofs.joining.join.Goals as goal
 
 pub overflow_add-a : goal.overflow_add-a

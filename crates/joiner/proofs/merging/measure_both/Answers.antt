@@ -1,7 +1,6 @@
 -- `joiner::merging::measure_both` meets its contract: the first is measured, then the second after it. Assumes nothing.
 use mathlib.Core.List.{[]}
 use Rattle.joiner.proofs.MergeLaws.{begun_first, begun-second}
-use borrow.Author.Rules.{rules}
 use Rattle.joiner.proofs.merging.measure_both.Goals as goal
 
 pub measure-t-requires : goal.measure-t-requires

@@ -3,7 +3,6 @@ use mathlib.Core.Path.{sym, ◌∙◌}
 use Prim.Native.Nat.{ℕ}
 use lib.ListN.{length-replicate}
 use Rattle.joiner.proofs.MergeLaws.{rows-over, names-over, size-over, planned, written}
-use borrow.Author.Rules.{rules}
 use Rattle.format.specs.Limits.{max_rows}
 use Rattle.joiner.proofs.merging.merge.Goals as goal
 

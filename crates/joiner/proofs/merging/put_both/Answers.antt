@@ -1,7 +1,6 @@
 -- `joiner::merging::put_both` meets its contract: the first is written, then the second after it. Assumes nothing.
 use mathlib.Core.List.{[]}
 use Rattle.joiner.proofs.MergeLaws.{planning-first, planning-second, put-none}
-use borrow.Author.Rules.{rules}
 use Rattle.joiner.proofs.merging.put_both.Goals as goal
 
 pub put-w-requires : goal.put-w-requires

@@ -4,7 +4,6 @@ use native.Mathlib.Omega.{arith}
 use Rattle.ascii.specs.Text.{ascii}
 use Rattle.ascii.proofs.Writing.{room, fits, next, next_byte, ends}
 use Rattle.listed.proofs.Lines.{bundle-fits, bundle-put}
-use borrow.Author.Rules.{rules}
 use Rattle.listed.proofs.line.put_bundle_line.Goals as goal
 
 pub put_labelled-a-requires : goal.put_labelled-a-requires

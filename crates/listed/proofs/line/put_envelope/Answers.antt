@@ -3,7 +3,6 @@ use native.Mathlib.Omega.{arith}
 use Rattle.ascii.specs.Text.{ascii}
 use Rattle.ascii.proofs.Writing.{room, fits, next, next_byte, ends}
 use Rattle.listed.proofs.Lines.{envelope-fits, envelope-put}
-use borrow.Author.Rules.{rules}
 use Rattle.listed.proofs.line.put_envelope.Goals as goal
 
 pub put_labelled-a-requires : goal.put_labelled-a-requires

@@ -8,7 +8,6 @@ use Rattle.reader.specs.Answers.{answer_of}
 use Rattle.wire.specs.Output.{Puts}
 use Rattle.ascii.specs.Text.{ascii}
 use Rattle.listed.specs.Text.{at_word, bundle_line, first_line, refused_word}
-use borrow.Author.Rules.{rules}
 use Rattle.listed.proofs.line.put_first.Goals as goal
 
 pub put_bundle_line-requires : goal.put_bundle_line-requires

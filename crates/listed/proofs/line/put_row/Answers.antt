@@ -2,7 +2,6 @@
 use native.Mathlib.Omega.{arith}
 use Rattle.ascii.proofs.Writing.{room, fits, next, ends}
 use Rattle.listed.proofs.Lines.{index-fits, index-put}
-use borrow.Author.Rules.{rules}
 use Rattle.listed.proofs.line.put_row.Goals as goal
 
 pub put_ended-a-requires : goal.put_ended-a-requires

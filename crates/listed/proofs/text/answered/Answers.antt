@@ -4,7 +4,6 @@ use Rattle.format.specs.Answer.{outcome_of}
 use Rattle.reader.specs.declared.checking.Checked.{Checked}
 use Rattle.reader.specs.Answers.{answer_of}
 use Rattle.listed.specs.Promises.{printed_of}
-use borrow.Author.Rules.{rules}
 use Rattle.listed.proofs.text.answered.Goals as goal
 
 pub returns-in-Good : goal.returns-in-Good

@@ -2,7 +2,6 @@
 use native.Mathlib.Omega.{arith}
 use Rattle.listed.specs.Text.{envelope_text}
 use Rattle.listed.proofs.Texts.{envelope-short, put-none, put_all}
-use borrow.Author.Rules.{rules}
 use Rattle.listed.proofs.text.put_envelope_error.Goals as goal
 
 pub returns-then-out-lt-MAX_LEN : goal.returns-then-out-lt-MAX_LEN

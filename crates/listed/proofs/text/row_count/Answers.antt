@@ -1,6 +1,5 @@
 -- `listed::text::row_count`: the rows that an answer counts, by its case. Assumes nothing.
 use mathlib.Core.Path.{sym, ap}
-use borrow.Author.Rules.{rules}
 use Rattle.format.specs.Answer.{fail}
 use Rattle.reader.specs.declared.checking.Checked.{Checked}
 use Rattle.reader.specs.Answers.{answer_of, rows_in}

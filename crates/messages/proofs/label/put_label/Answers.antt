@@ -3,7 +3,6 @@ use native.Mathlib.Omega.{arith}
 use Rattle.ascii.specs.Text.{ascii}
 use Rattle.ascii.proofs.Writing.{room, fits, next, ends}
 use Rattle.messages.proofs.Texts.{name-fits, name-put}
-use borrow.Author.Rules.{rules}
 use Rattle.messages.proofs.label.put_label.Goals as goal
 
 pub copy-a-requires : goal.copy-a-requires

@@ -3,7 +3,6 @@ use native.Mathlib.Omega.{arith}
 use Rattle.ascii.specs.Text.{ascii}
 use Rattle.ascii.proofs.Writing.{room, fits, next, ends}
 use Rattle.messages.proofs.Texts.{label-fits, label-put}
-use borrow.Author.Rules.{rules}
 use Rattle.messages.proofs.label.put_unknown_option.Goals as goal
 
 pub put_label-a-requires : goal.put_label-a-requires

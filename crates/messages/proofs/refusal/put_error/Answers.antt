@@ -3,7 +3,6 @@ use native.Mathlib.Omega.{arith}
 use Rattle.ascii.specs.Text.{ascii}
 use Rattle.ascii.proofs.Writing.{room, fits, next, ends}
 use Rattle.messages.proofs.Texts.{error-fits, error-put}
-use borrow.Author.Rules.{rules}
 use Rattle.messages.proofs.refusal.put_error.Goals as goal
 
 pub put_labelled-at-requires : goal.put_labelled-at-requires

@@ -3,7 +3,6 @@ use native.Mathlib.Omega.{arith}
 use Rattle.ascii.specs.Text.{ascii}
 use Rattle.ascii.proofs.Writing.{room, fits, next, next_byte, ends}
 use Rattle.messages.proofs.Texts.{colon_fits, colon_put}
-use borrow.Author.Rules.{rules}
 use Rattle.messages.proofs.refusal.put_meaning.Goals as goal
 
 pub copy-a-requires : goal.copy-a-requires

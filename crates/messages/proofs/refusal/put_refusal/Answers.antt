@@ -3,7 +3,6 @@ use native.Mathlib.Omega.{arith}
 use Rattle.ascii.specs.Text.{ascii}
 use Rattle.ascii.proofs.Writing.{room, fits, next, ends}
 use Rattle.messages.proofs.Texts.{envelope-fits, envelope-put}
-use borrow.Author.Rules.{rules}
 use Rattle.messages.proofs.refusal.put_refusal.Goals as goal
 
 pub put_labelled-a-requires : goal.put_labelled-a-requires

@@ -4,7 +4,6 @@ use Rattle.format.specs.Choice.{pick}
 use Rattle.ascii.specs.Text.{ascii}
 use Rattle.messages.specs.Text.{beside, words}
 use Rattle.messages.proofs.Texts.{fit_as, put_as, words-other}
-use borrow.Author.Rules.{rules}
 use Rattle.messages.proofs.refusal.put_words.Goals as goal
 
 pub copy-requires : goal.copy-requires

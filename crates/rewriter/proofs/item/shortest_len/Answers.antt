@@ -2,7 +2,6 @@
 use native.Mathlib.Omega.{arith}
 use Rattle.encoder.proofs.Lengths.{header-most}
 use Rattle.rewriter.proofs.Arms.{one_byte}
-use borrow.Author.Rules.{rules}
 use Rattle.rewriter.proofs.item.shortest_len.Goals as goal
 
 pub returns-then-size-eq1 : goal.returns-then-size-eq1

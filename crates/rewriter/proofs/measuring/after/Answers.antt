@@ -1,7 +1,6 @@
 -- `rewriter::measuring::after` meets its contract, field by field. Assumes nothing.
 use mathlib.Core.Path.{refl}
 use Rattle.rewriter.specs.Measuring.{tallied}
-use borrow.Author.Rules.{rules}
 use Rattle.rewriter.proofs.measuring.after.Goals as goal
 
 pub returns : goal.returns

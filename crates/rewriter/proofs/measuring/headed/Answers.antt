@@ -6,7 +6,6 @@ use native.Mathlib.Omega.{arith}
 use Rattle.wire.proofs.CodeLaws.{code-within}
 use Rattle.rewriter.proofs.Arms.{fixed-code, form-held, number-plain, number-full, number-length, fixed_plain, fixed-length, content-plain, content-length}
 use Rattle.rewriter.proofs.MeasureSteps.{turned, room, small, inside, plain-on, reference-on, reference-small, held_small}
-use borrow.Author.Rules.{rules}
 use Rattle.rewriter.proofs.measuring.headed.Goals as goal
 
 pub overflow_add-next : goal.overflow_add-next

@@ -1,7 +1,6 @@
 -- `rewriter::measuring::item` meets its contract: in a bundle that reads no header is cut. Assumes nothing.
 use Rattle.format.specs.Reading.{lenient}
 use Rattle.format.proofs.Turns.{never-cut}
-use borrow.Author.Rules.{rules}
 use Rattle.rewriter.proofs.measuring.item.Goals as goal
 
 pub headed-requires : goal.headed-requires

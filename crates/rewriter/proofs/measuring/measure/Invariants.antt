@@ -1,12 +1,10 @@
 -- `rewriter::measuring::measure` meets its contract: the loop keeps `Stage`, and each item takes bytes. Assumes nothing.
-use mathlib.Core.Path.{refl}
 use mathlib.Core.List.{List}
 use Prim.Native.Nat.{◌-◌}
 use lib.ListN.{length}
 use Rattle.format.specs.Item.{Item}
 use Rattle.format.specs.Reading.{State}
 use Rattle.rewriter.specs.Measuring.{Begun, Stage}
-use Rattle.rewriter.proofs.MeasureLoop.{begun_as, stage-start, stage_here, stage-next, stage-end}
 use Rattle.rewriter.proofs.measuring.measure.Given as goal
 
 abbrev pub invariant-loop-t : goal.invariant-loop-t

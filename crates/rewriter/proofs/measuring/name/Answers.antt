@@ -4,7 +4,6 @@ use Prim.Native.Nat.{◌+◌}
 use native.Mathlib.Omega.{arith}
 use Rattle.rewriter.specs.Measuring.{tallied}
 use Rattle.rewriter.proofs.MeasureSteps.{name_here, known_on, fresh_on, full-over}
-use borrow.Author.Rules.{rules}
 use Rattle.rewriter.proofs.measuring.name.Goals as goal
 
 pub overflow_add-next : goal.overflow_add-next

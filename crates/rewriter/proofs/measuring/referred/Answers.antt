@@ -3,7 +3,6 @@ use mathlib.Core.Path.{refl, ap, ◌∙◌}
 use native.Mathlib.Omega.{arith}
 use Rattle.encoder.proofs.Lengths.{header-most}
 use Rattle.rewriter.specs.Measuring.{tallied}
-use borrow.Author.Rules.{rules}
 use Rattle.rewriter.proofs.measuring.referred.Goals as goal
 
 pub after-requires : goal.after-requires

@@ -1,7 +1,6 @@
 -- `rewriter::putting::item` meets its contract: in a bundle that reads no header is cut. Assumes nothing.
 use Rattle.format.specs.Reading.{lenient}
 use Rattle.format.proofs.Turns.{never-cut}
-use borrow.Author.Rules.{rules}
 use Rattle.rewriter.proofs.putting.item.Goals as goal
 
 pub put_next-requires : goal.put_next-requires

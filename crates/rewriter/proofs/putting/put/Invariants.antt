@@ -1,13 +1,10 @@
 -- `rewriter::putting::put` meets its contract: the loop keeps `Putting`, and each item takes bytes. Assumes nothing.
-use mathlib.Core.Path.{refl}
 use mathlib.Core.List.{List}
 use Prim.Native.Nat.{ℕ, ◌-◌}
-use native.Mathlib.Omega.{arith}
 use lib.ListN.{length}
 use Rattle.format.specs.Item.{Item}
 use Rattle.format.specs.Reading.{State}
 use Rattle.rewriter.specs.Putting.{Planning, Put, Putting}
-use Rattle.rewriter.proofs.PutLoop.{put_as, put-start, put-end, kept}
 use Rattle.rewriter.proofs.putting.put.Given as goal
 
 abbrev pub invariant-loop-w : goal.invariant-loop-w

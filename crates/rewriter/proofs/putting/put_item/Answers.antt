@@ -6,7 +6,6 @@ use Rattle.wire.proofs.CodeLaws.{code-within}
 use Rattle.rewriter.specs.Items.{sized}
 use Rattle.rewriter.proofs.Arms.{fixed-code}
 use Rattle.rewriter.proofs.Rewritten.{rewritten-number, rewritten-reference, rewritten-fixed, rewritten-name, rewritten-sized, ends-number, ends-reference, ends-fixed, ends_held, held-within}
-use borrow.Author.Rules.{rules}
 use Rattle.rewriter.proofs.putting.put_item.Goals as goal
 
 pub put_header-requires : goal.put_header-requires

@@ -6,7 +6,6 @@ use mathlib.Core.Path.{refl}
 use native.Mathlib.Omega.{arith}
 use Rattle.encoder.proofs.OutputLaws.{puts-at}
 use Rattle.rewriter.proofs.PutSteps.{room, fits_here, tail_long, inside, content-whole, put_on}
-use borrow.Author.Rules.{rules}
 use Rattle.rewriter.proofs.putting.put_next.Goals as goal
 
 pub slice_bounds-put_item-count : goal.slice_bounds-put_item-count

@@ -3,7 +3,6 @@ use native.Mathlib.Omega.{arith}
 use Prim.Native.Nat.{◌+◌, ◌-◌}
 use mathlib.Core.Path.{◌≡◌}
 use Rattle.rows.proofs.RowLaws.{inside, content_part}
-use borrow.Author.Rules.{rules}
 use Rattle.rows.proofs.item.content.Goals as goal
 
 pub overflow_add-end : goal.overflow_add-end

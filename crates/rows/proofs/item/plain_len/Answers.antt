@@ -6,7 +6,6 @@ use mathlib.Core.Path.{refl, ◌∙◌}
 use Rattle.format.specs.Kind as Kind
 use Rattle.format.proofs.Headers.{following-single, following_double, following-small}
 use Rattle.encoder.proofs.Lengths.{header-most, length-fixed, length-sized}
-use borrow.Author.Rules.{rules}
 use Rattle.rows.proofs.item.plain_len.Goals as goal
 
 pub returns-then-kind-ge-BYTES : goal.returns-then-kind-ge-BYTES

@@ -6,7 +6,6 @@ use Rattle.format.specs.Kind as Kind
 use Rattle.rows.specs.Steps.{named_by}
 use Rattle.encoder.proofs.Lengths.{header-most}
 use Rattle.rows.proofs.JudgeLaws.{ready_more}
-use borrow.Author.Rules.{rules}
 use Rattle.rows.proofs.name.fresh.Goals as goal
 
 pub overflow_add-n : goal.overflow_add-n

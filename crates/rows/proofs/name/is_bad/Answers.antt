@@ -1,7 +1,6 @@
 -- `rows::name::is_bad` meets its contract. Assumes nothing.
 use mathlib.Core.Path.{sym, ◌∙◌}
 use Rattle.format.proofs.Tests.{ltb_yes, ltb_no}
-use borrow.Author.Rules.{rules}
 use Rattle.rows.proofs.name.is_bad.Goals as goal
 
 pub returns-then-row-gt-MAX_KIND : goal.returns-then-row-gt-MAX_KIND

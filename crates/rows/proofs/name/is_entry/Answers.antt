@@ -1,7 +1,6 @@
 -- `rows::name::is_entry` meets its contract: there is such an entry, and `is_part` compares it. Assumes nothing.
 use mathlib.Core.Path.{refl}
 use Rattle.format.proofs.Tests.{clash}
-use borrow.Author.Rules.{rules}
 use Rattle.rows.proofs.name.is_entry.Goals as goal
 
 pub returns-then-names-i : goal.returns-then-names-i

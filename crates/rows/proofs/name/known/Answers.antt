@@ -4,7 +4,6 @@ use mathlib.Core.Path.{refl, ap, ◌∙◌}
 use Rattle.rows.specs.Steps.{named_by}
 use Rattle.encoder.proofs.Lengths.{header-most}
 use Rattle.rows.proofs.JudgeLaws.{ready_more}
-use borrow.Author.Rules.{rules}
 use Rattle.rows.proofs.name.known.Goals as goal
 
 pub named-requires : goal.named-requires

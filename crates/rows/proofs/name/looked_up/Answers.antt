@@ -3,13 +3,11 @@ use native.Mathlib.Omega.{arith}
 use mathlib.Core.Path.{ap, sym, ◌∙◌}
 use mathlib.Core.Bool.{not}
 use Rattle.format.specs.Utf8.{utf8}
-use Rattle.format.proofs.Tests.{not-false}
 use Rattle.rows.proofs.RowLaws.{content-end, inside, kind-most}
 use Rattle.rows.specs.Judging.{too_many_entries}
 use Rattle.rows.proofs.JudgeLaws.{refuse_next, refuse_text_next}
 use Rattle.rows.proofs.KindLaws.{name_invalid, fresh-full}
 use Rattle.rows.proofs.NameLaws.{has_content_lem, name-stands, looked_up, among, known_next, fresh-next}
-use borrow.Author.Rules.{rules}
 use Rattle.rows.proofs.name.looked_up.Goals as goal
 
 pub content-part-requires : goal.content-part-requires

@@ -6,7 +6,6 @@ use Rattle.rows.specs.Judging.{invalid_row, unexpected_key}
 use Rattle.rows.proofs.JudgeLaws.{rule_9, refuse_next}
 use Rattle.rows.proofs.KindLaws.{name-again}
 use Rattle.rows.proofs.NameLaws.{guessed, known_next}
-use borrow.Author.Rules.{rules}
 use Rattle.rows.proofs.name.name_row.Goals as goal
 
 pub returns-then-is_bad : goal.returns-then-is_bad

@@ -1,10 +1,7 @@
 -- `rows::place::close` meets its contract: what is closed from here is what is closed from the start. Assumes nothing.
-use mathlib.Core.Path.{◌≡◌, refl, sym, ◌∙◌}
-use Prim.Native.Nat.{◌≤◌}
+use mathlib.Core.Path.{refl, sym, ◌∙◌}
 use native.Mathlib.Omega.{arith}
-use Rattle.rows.specs.Stack.{bottom, closed}
 use Rattle.rows.proofs.StackLaws.{top_left, close_out, bottom_out, close_here}
-use Rattle.format.specs.Limits.{max_depth}
 use Rattle.rows.proofs.place.close.Goals as goal
 
 pub loop-l-init : goal.loop-l-init

@@ -1,7 +1,6 @@
 -- `rows::place::descend` meets its contract. Assumes nothing.
 use mathlib.Core.Path.{refl}
 use Rattle.rows.specs.Steps.{opened_by}
-use borrow.Author.Rules.{rules}
 use Rattle.rows.proofs.place.descend.Goals as goal
 
 pub returns : goal.returns

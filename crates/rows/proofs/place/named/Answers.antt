@@ -2,7 +2,6 @@
 use mathlib.Core.Path.{sym, ◌∙◌}
 use Rattle.format.proofs.Tests.{eqb_yes, eqb_no, pick_yes, pick_no}
 use Rattle.rows.specs.Steps.{keyed_by, named_by}
-use borrow.Author.Rules.{rules}
 use Rattle.rows.proofs.place.named.Goals as goal
 
 pub returns-then-kind-eq-KEY : goal.returns-then-kind-eq-KEY

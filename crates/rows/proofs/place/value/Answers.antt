@@ -1,6 +1,5 @@
 -- `rows::place::value` meets its contract. Assumes nothing.
 use Rattle.rows.specs.Steps.{valued}
-use borrow.Author.Rules.{rules}
 use Rattle.rows.proofs.place.value.Goals as goal
 
 pub returns : goal.returns

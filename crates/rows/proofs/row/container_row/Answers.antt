@@ -7,7 +7,6 @@ use Rattle.encoder.proofs.Lengths.{header-most}
 use Rattle.rows.specs.Judging.{too_deep}
 use Rattle.rows.proofs.JudgeLaws.{ready_more, refuse_next, value-next, open_next, no_key, a_container, measured-plain}
 use Rattle.rows.proofs.KindLaws.{plain-deep, container-none, container-fine, container-full}
-use borrow.Author.Rules.{rules}
 use Rattle.rows.proofs.row.container_row.Goals as goal
 
 pub returns-then-s-ge-MAX_DEPTH : goal.returns-then-s-ge-MAX_DEPTH

@@ -8,7 +8,6 @@ use Rattle.rows.proofs.RowLaws.{content-end, content-kinds}
 use Rattle.rows.specs.Judging.{invalid_row}
 use Rattle.rows.proofs.JudgeLaws.{rule_9, ready_more, refuse_next, refuse_text_next, value-next, no_key, no_container, measured-plain}
 use Rattle.rows.proofs.KindLaws.{content-bad, content-full, content-small, plain-text, value_none}
-use borrow.Author.Rules.{rules}
 use Rattle.rows.proofs.row.content_row.Goals as goal
 
 pub returns-then-outside : goal.returns-then-outside

@@ -9,7 +9,6 @@ use Rattle.rows.proofs.RowLaws.{bad-plain}
 use Rattle.rows.specs.Judging.{invalid_row}
 use Rattle.rows.proofs.JudgeLaws.{rule_9, refuse_next, value-next, no_container, no_key, measured-plain}
 use Rattle.rows.proofs.KindLaws.{value_none, bare}
-use borrow.Author.Rules.{rules}
 use Rattle.rows.proofs.row.plain_row.Goals as goal
 
 pub returns-then-bad_number : goal.returns-then-bad_number

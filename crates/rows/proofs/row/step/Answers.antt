@@ -4,7 +4,6 @@ use mathlib.Core.Path.{refl, sym, ◌∙◌}
 use Rattle.rows.proofs.RowLaws.{row_is, content-none, bad-start}
 use Rattle.rows.specs.Judging.{invalid_row}
 use Rattle.rows.proofs.JudgeLaws.{rule_9, refuse_next, next_row}
-use borrow.Author.Rules.{rules}
 use Rattle.rows.proofs.row.step.Goals as goal
 
 pub content_row-requires : goal.content_row-requires

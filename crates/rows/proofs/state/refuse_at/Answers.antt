@@ -1,6 +1,5 @@
 -- `rows::state::refuse_at` meets its contract. Assumes nothing.
 use Rattle.rows.specs.Steps.{refused}
-use borrow.Author.Rules.{rules}
 use Rattle.rows.proofs.state.refuse_at.Goals as goal
 
 pub returns : goal.returns

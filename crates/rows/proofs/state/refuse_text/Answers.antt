@@ -1,6 +1,5 @@
 -- `rows::state::refuse_text` adds the place in the text to its start. Assumes nothing.
 use native.Mathlib.Omega.{arith}
-use borrow.Author.Rules.{rules}
 use Rattle.format.proofs.Utf8.{bad-within}
 use Rattle.rows.proofs.state.refuse_text.Goals as goal
 

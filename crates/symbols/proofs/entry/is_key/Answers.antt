@@ -1,5 +1,4 @@
 -- `symbols::entry::is_key` meets its contract, by that of `kind`. Assumes nothing.
-use borrow.Author.Rules.{rules}
 use Rattle.symbols.proofs.entry.is_key.Goals as goal
 
 pub returns : goal.returns

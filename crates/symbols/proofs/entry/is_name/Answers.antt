@@ -1,7 +1,6 @@
 -- `symbols::entry::is_name` meets its contract: another key is another name, and with the same key the bytes decide. Assumes nothing.
 use mathlib.Core.Path.{sym, ◌∙◌}
 use Rattle.symbols.proofs.EntryLaws.{other_key, same_key}
-use borrow.Author.Rules.{rules}
 use Rattle.symbols.proofs.entry.is_name.Goals as goal
 
 pub returns-then-name_key-key : goal.returns-then-name_key-key

@@ -4,7 +4,6 @@ use Prim.Native.Nat.{◌%◌}
 use native.Mathlib.Omega.{arith}
 use Rattle.format.proofs.Tests.{clash, eqb-true}
 use Rattle.symbols.specs.Entry.{mark_unit, shape_of}
-use borrow.Author.Rules.{rules}
 use Rattle.symbols.proofs.entry.is_part.Goals as goal
 
 pub returns-then-e-start : goal.returns-then-e-start

@@ -1,6 +1,5 @@
 -- `symbols::entry::part` meets its contract: a sound entry's part is there, and `pick` picks it. Assumes nothing.
 use Rattle.symbols.specs.Entry.{part_in}
-use borrow.Author.Rules.{rules}
 use Rattle.symbols.proofs.entry.part.Goals as goal
 
 pub pick-requires : goal.pick-requires

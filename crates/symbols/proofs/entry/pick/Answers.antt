@@ -2,7 +2,6 @@
 use native.Mathlib.Omega.{arith}
 use native.Mathlib.Nat.{add-sub_cancel_left}
 use Rattle.symbols.proofs.EntryLaws.{side_first, side_second}
-use borrow.Author.Rules.{rules}
 use Rattle.symbols.proofs.entry.pick.Goals as goal
 
 pub overflow_add-result : goal.overflow_add-result

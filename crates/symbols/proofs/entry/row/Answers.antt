@@ -1,6 +1,5 @@
 -- `symbols::entry::row` meets its contract, by those of the fields. Assumes nothing.
 use mathlib.Core.Path.{◌∙◌}
-use borrow.Author.Rules.{rules}
 use Rattle.symbols.proofs.entry.row.Goals as goal
 
 pub returns : goal.returns

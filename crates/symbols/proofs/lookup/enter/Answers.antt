@@ -1,7 +1,6 @@
 -- `symbols::lookup::enter` meets its contract: the stores are those of `chain_more`. Assumes nothing.
 use mathlib.Core.Path.{refl}
 use Rattle.symbols.proofs.ChainLaws.{chain_more}
-use borrow.Author.Rules.{rules}
 use Rattle.symbols.proofs.lookup.enter.Goals as goal
 
 pub returns : goal.returns

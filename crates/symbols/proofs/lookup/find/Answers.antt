@@ -2,8 +2,7 @@
 use mathlib.Core.Path.{sym, ◌∙◌}
 use Prim.Native.Nat.{◌-◌}
 use native.Mathlib.Omega.{arith}
-use borrow.Author.Rules.{rules}
-use Rattle.symbols.proofs.ChainLaws.{found_at, found_none, Along, along_start, along_next, along_less, along_hit, along_end}
+use Rattle.symbols.proofs.ChainLaws.{found_at, found_none, along_start, along_next, along_less, along_hit, along_end}
 use Rattle.symbols.proofs.lookup.find.Goals as goal
 
 pub offset_bounds-links-head : goal.offset_bounds-links-head

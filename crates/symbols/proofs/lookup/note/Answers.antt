@@ -3,7 +3,6 @@ use mathlib.Core.Path.{refl}
 use native.Mathlib.Omega.{arith}
 use Rattle.symbols.proofs.EntryLaws.{key-lt, packed_marked, packed_name, packed_sound}
 use Rattle.symbols.proofs.ChainLaws.{found_some, found_nothing, index-small}
-use borrow.Author.Rules.{rules}
 use Rattle.symbols.proofs.lookup.note.Goals as goal
 
 pub returns-then-count-ge-MAX_ENTRIES : goal.returns-then-count-ge-MAX_ENTRIES

@@ -4,7 +4,6 @@ use Prim.Native.Nat.{◌-◌, ◌/◌}
 use native.Mathlib.Omega.{arith}
 use lib.ListN.{length}
 use Rattle.symbols.proofs.MarkLaws.{end_eight, end_four, end-few, end_none}
-use borrow.Author.Rules.{rules}
 use Rattle.symbols.proofs.mark.end.Goals as goal
 
 pub returns-then-n-ge8 : goal.returns-then-n-ge8

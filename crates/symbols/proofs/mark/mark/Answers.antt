@@ -1,10 +1,8 @@
 -- `symbols::mark::mark` meets its contract: the mark of all bytes is the mark of those left, begun with `h`. Assumes nothing.
-use mathlib.Core.Path.{◌≡◌, ap, sym, ◌∙◌}
-use Prim.Native.Nat.{◌-◌, ◌≤◌, ◌<◌}
+use mathlib.Core.Path.{ap, sym, ◌∙◌}
 use native.Mathlib.Omega.{arith}
 use lib.ListN.{length, length-drop}
-use Rattle.symbols.specs.Mark.{marks, mark_of}
-use Rattle.symbols.proofs.MarkLaws.{mark_at, mark_start, mark_eight, rest-is, mark_rest}
+use Rattle.symbols.proofs.MarkLaws.{mark_start, mark_eight, rest-is, mark_rest}
 use Rattle.symbols.proofs.mark.mark.Goals as goal
 
 pub loop-i-init : goal.loop-i-init

@@ -1,10 +1,9 @@
 -- `symbols::mark::mark` meets its contract: the mark of all bytes is the mark of those left, begun with `h`. Assumes nothing.
-use mathlib.Core.Path.{◌≡◌, ap, sym, ◌∙◌}
+use mathlib.Core.Path.{◌≡◌}
 use Prim.Native.Nat.{◌-◌, ◌≤◌, ◌<◌}
-use native.Mathlib.Omega.{arith}
-use lib.ListN.{length, length-drop}
+use lib.ListN.{length}
 use Rattle.symbols.specs.Mark.{marks, mark_of}
-use Rattle.symbols.proofs.MarkLaws.{mark_at, mark_start, mark_eight, rest-is, mark_rest}
+use Rattle.symbols.proofs.MarkLaws.{mark_at}
 use Rattle.symbols.proofs.mark.mark.Given as goal
 
 abbrev pub invariant-loop-i : goal.invariant-loop-i

@@ -2,7 +2,6 @@
 use mathlib.Core.Path.{refl}
 use native.Mathlib.Omega.{arith}
 use Rattle.symbols.specs.Mark.{mixed}
-use borrow.Author.Rules.{rules}
 use Rattle.symbols.proofs.mark.mix.Goals as goal
 
 pub returns : goal.returns

@@ -1,6 +1,5 @@
 -- `Walked::new` stands before the first item. Assumes nothing.
 use mathlib.Core.Path.{refl}
-use borrow.Author.Rules.{rules}
 use Rattle.walk.proofs.Walked.new.Goals as goal
 
 pub returns : goal.returns
