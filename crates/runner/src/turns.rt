@@ -77,7 +77,7 @@ fn turn<R: Read>(
     requires ready { Ready s (length input.old) (length output.old) }
     requires buffers { Buffers (filter_of program) input.old output.old }
     requires scratch_len { length scratch.old ≡ max_bytes }
-    ensures ready_2 { Ready result (length input.new) (length output.new) }
+    ensures still_ready { Ready result (length input.new) (length output.new) }
     ensures turns { Turns (filter_of program) s input.old output.old result input.new output.new }
 {
     match next(input, s) {

@@ -4,10 +4,8 @@ use Rattle.stream.proofs.state.flush.Goals as goal
 
 pub slice_bounds-put-end : goal.slice_bounds-put-end
 slice_bounds-put-end c =
-    let pre' = c.requires in
-    sym (length-take-le _ _ (pre'))
+    sym (length-take-le _ _ c.requires)
 
 pub returns : goal.returns
 returns c =
-    let pre' = c.requires in
-    let p = pre' in (refl, λ z. ap not (c.put-failed.ensures (length-take-le _ _ p ∙ z)))
+    let p = c.requires in (refl, λ z. ap not (c.put-failed.ensures (length-take-le _ _ p ∙ z)))
