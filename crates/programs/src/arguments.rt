@@ -1,6 +1,5 @@
 // What the arguments ask for.
-ghost use Rattle.std.specs.Prelude.{◌≡◌};
-ghost use Rattle.io.specs.Counts.{IsPrefixLen};
+ghost use Rattle.std.specs.Prelude.{◌≡◌, ◌≤◌, length, take};
 ghost use Rattle.programs.specs.Arguments.{Asks, argument_of};
 
 use crate::sources::Path;
@@ -47,7 +46,8 @@ fn judged(word: &[u8]) -> Argument
 
 // Puts argument i at the start of a buffer, or as much of it as the buffer takes.
 pub fn put_argument(rt: &HostRuntime, i: usize, out: &mut [u8]) -> usize
-    ensures { IsPrefixLen result out.new }
+    ensures within { result ≤ length out.new }
+    ensures put { result ≡ length (take result out.new) }
 {
     match rt.arg(i, out) {
         Ok(n) => n,
