@@ -14,4 +14,4 @@ returns-in-Failed c =
 
 pub returns-in-Done : goal.returns-in-Done
 returns-in-Done c =
-    lists_bundle _ _ _ c.requires _ (rw c.in-Done.is at c.bundle_len.ensures) c.«open».ensures c.put_bundle-printed.ensures
+    lists_bundle _ _ _ c.requires _ (rw c.in-Done.is at c.bundle_len.ensures) c.open-bundle.ensures c.put_bundle-printed.ensures
