@@ -23,7 +23,8 @@ pub fn list(k: u64, bytes: &[u8], out: &mut [u8]) -> Step
             }
         }
         Written::Done(n) => {
-            let printed = put_bundle(k, envelope::open(bytes), out);
+            let bundle = envelope::open(bytes);
+            let printed = put_bundle(k, bundle, out);
             let outcome = printed.outcome;
             Step {
                 used: envelope::OVERHEAD + n,

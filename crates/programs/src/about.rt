@@ -8,24 +8,25 @@ use runner::Program;
 use stream::put;
 
 // Prints a text on standard output.
-fn print(name: &[u8], text: &[u8]) -> u8
+fn print(rt: &HostRuntime, name: &[u8], text: &[u8]) -> u8
     requires { length name.now ≤ max_name }
     ensures { Prints result }
 {
     let mut line = Line::new();
     let n = put_label(name, b"standard output", &mut line);
-    if put(text, &line[..n]) {
+    if put(rt, text, &line[..n]) {
         return 0;
     }
     2
 }
 
-pub fn print_help(program: Program, name: &[u8]) -> u8
+pub fn print_help(rt: &HostRuntime, program: Program, name: &[u8]) -> u8
     requires { length name.now ≤ max_name }
     ensures { Prints result }
 {
     match program {
         Program::Listing => print(
+            rt,
             name,
             b"usage: listing [FILE]...
 Prints the rows of the nachricht messages in each FILE, or in standard input if none is named.
@@ -37,6 +38,7 @@ Exit status: 0 if every message is good, 1 if one is refused, 2 if an argument i
 ",
         ),
         Program::Tidy => print(
+            rt,
             name,
             b"usage: tidy [FILE]...
 Copies the nachricht messages of each FILE, or of standard input if none is named, to standard output, each in its
@@ -51,12 +53,12 @@ Exit status: 0 if every message is good, 1 if one is refused, 2 if an argument i
     }
 }
 
-pub fn print_version(program: Program, name: &[u8]) -> u8
+pub fn print_version(rt: &HostRuntime, program: Program, name: &[u8]) -> u8
     requires { length name.now ≤ max_name }
     ensures { Prints result }
 {
     match program {
-        Program::Listing => print(name, b"listing 0.1.0\n"),
-        Program::Tidy => print(name, b"tidy 0.1.0\n"),
+        Program::Listing => print(rt, name, b"listing 0.1.0\n"),
+        Program::Tidy => print(rt, name, b"tidy 0.1.0\n"),
     }
 }

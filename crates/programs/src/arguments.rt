@@ -1,9 +1,10 @@
 // What the arguments ask for.
-ghost use Rattle.std.specs.Prelude.{◌≡◌};
-ghost use Rattle.io.specs.Counts.{IsPrefixLen};
+ghost use Rattle.std.specs.Prelude.{◌≡◌, ◌≤◌, length, take};
 ghost use Rattle.programs.specs.Arguments.{Asks, argument_of};
 
-use libc::ENAMETOOLONG;
+use crate::sources::Path;
+use std::env::FillError;
+use std::rt::Env;
 use wire::bytes::same;
 
 // One argument: the name of a file, a request for a text, or an option that there is not.
@@ -44,24 +45,37 @@ fn judged(word: &[u8]) -> Argument
 }
 
 // Puts argument i at the start of a buffer, or as much of it as the buffer takes.
-pub fn put_argument(i: usize, out: &mut [u8]) -> usize
-    ensures { IsPrefixLen result out.new }
+pub fn put_argument(rt: &HostRuntime, i: usize, out: &mut [u8]) -> usize
+    ensures within { result ≤ length out.new }
+    ensures put { result ≡ length (take result out.new) }
 {
-    let n = os::arg(i, out);
-    if os::errno() == ENAMETOOLONG {
-        return out.len();
+    match rt.arg(i, out) {
+        Ok(n) => n,
+        Err(FillError::TooLong) => out.len(),
+        Err(FillError::NotPresent) => 0,
+    }
+}
+
+// How many arguments there are, the program's own name among them: they end at the first that is not there.
+pub fn count(rt: &HostRuntime) -> usize {
+    let mut n = 0;
+    while n < usize::MAX {
+        if let Err(FillError::NotPresent) = rt.arg(n, &mut []) {
+            return n;
+        }
+        n += 1;
     }
     n
 }
 
 // The first of so many arguments that is no file's name decides. Number 0 is the program's own name.
-pub fn requested(count: usize) -> Request
+pub fn requested(rt: &HostRuntime, count: usize) -> Request
     ensures { Asks count result }
 {
     let mut i = 1;
     while i < count {
-        let mut word = io::buffer();
-        let n = put_argument(i, &mut word);
+        let mut word = Path::buffer();
+        let n = put_argument(rt, i, &mut word);
         match judged(&word[..n]) {
             Argument::File => {}
             Argument::Help => {

@@ -1,13 +1,13 @@
-// What C's `main` calls: the answer is the program's exit status, since Rattle's own `main` has none.
+// What the programs' `main` calls: the answer is the exit status.
 ghost use Rattle.std.specs.Prelude.{◌≡◌, ◌≤◌, length};
 ghost use Rattle.programs.specs.Exit.{Answers, Performs, max_name, status_of};
 
 use crate::about::{print_help, print_version};
-use crate::arguments::{Request, put_argument, requested};
-use crate::sources::{Line, serve_all};
-use libc::STDERR_FILENO;
+use crate::arguments::{Request, count, put_argument, requested};
+use crate::sources::{Line, Path, serve_all};
 use messages::put_unknown_option;
 use runner::Program;
+use std::io::Print;
 use stream::{Refusal, Stream};
 
 // 2 where something failed, 1 where an envelope was refused, whether that stopped the run or not, else 0.
@@ -28,43 +28,43 @@ fn status(s: Stream) -> u8
 }
 
 // Says that argument i is an option that there is not.
-fn say_unknown(name: &[u8], i: usize) -> u8
+fn say_unknown(rt: &HostRuntime, name: &[u8], i: usize) -> u8
     requires { length name.now ≤ max_name }
     ensures { result ≡ 2 }
 {
-    let mut word = io::buffer();
-    let n = put_argument(i, &mut word);
+    let mut word = Path::buffer();
+    let n = put_argument(rt, i, &mut word);
     let mut line = Line::new();
     let end = put_unknown_option(name, &word[..n], &mut line);
-    io::write_all(STDERR_FILENO, &line[..end]);
+    let _ = rt.stderr().write_all(&line[..end]);
     2
 }
 
 // Does what the arguments ask for.
-fn perform(program: Program, name: &[u8], request: Request, count: usize) -> u8
+fn perform(rt: &HostRuntime, program: Program, name: &[u8], request: Request, count: usize) -> u8
     requires { length name.now ≤ max_name }
     ensures { Performs program request count result }
 {
     match request {
-        Request::Run => status(serve_all(program, name, count)),
-        Request::Help => print_help(program, name),
-        Request::Version => print_version(program, name),
-        Request::Unknown(i) => say_unknown(name, i),
+        Request::Run => status(serve_all(rt, program, name, count)),
+        Request::Help => print_help(rt, program, name),
+        Request::Version => print_version(rt, program, name),
+        Request::Unknown(i) => say_unknown(rt, name, i),
     }
 }
 
-#[unsafe(no_mangle)]
-pub extern "C" fn listing_main() -> u8
+pub fn listing_main(rt: &HostRuntime) -> u8
     ensures { Answers Program.Listing result }
 {
-    let count = os::arg_count();
-    perform(Program::Listing, b"listing", requested(count), count)
+    let arguments = count(rt);
+    let request = requested(rt, arguments);
+    perform(rt, Program::Listing, b"listing", request, arguments)
 }
 
-#[unsafe(no_mangle)]
-pub extern "C" fn tidy_main() -> u8
+pub fn tidy_main(rt: &HostRuntime) -> u8
     ensures { Answers Program.Tidy result }
 {
-    let count = os::arg_count();
-    perform(Program::Tidy, b"tidy", requested(count), count)
+    let arguments = count(rt);
+    let request = requested(rt, arguments);
+    perform(rt, Program::Tidy, b"tidy", request, arguments)
 }

@@ -11,6 +11,7 @@ ghost use Rattle.runner.specs.Program.{filter_of, output_capacity};
 use crate::program::Program;
 use format::Bundle;
 use listed::Text;
+use std::io::Read;
 use stream::{Action, Stream, advance, begin, fail, finish, flush, next, refill};
 
 #[derive(Clone, Copy)]
@@ -37,6 +38,7 @@ fn scratch_buffer() -> [u8; Bundle::MAX_BYTES]
 
 // Takes the next envelope; where the buffer may be too short for what is made of it, writes what waits.
 fn take(
+    rt: &HostRuntime,
     program: Program,
     input: &[u8],
     scratch: &mut [u8],
@@ -53,7 +55,7 @@ fn take(
     let end = window.end;
     let filled = s.filled;
     if output.len() - filled < program.max_output() {
-        return flush(output, s, writing);
+        return flush(rt, output, s, writing);
     }
     let k = std::num::wrapping_add_u64(s.count, 1);
     let step = program.put(k, &input[start..end], scratch, &mut output[filled..]);
@@ -61,9 +63,10 @@ fn take(
 }
 
 // One turn, by what is to be done next.
-fn turn(
+fn turn<R: Read>(
+    rt: &HostRuntime,
     program: Program,
-    source: i32,
+    source: &mut R,
     input: &mut [u8],
     scratch: &mut [u8],
     output: &mut [u8],
@@ -74,18 +77,25 @@ fn turn(
     requires ready { Ready s (length input.old) (length output.old) }
     requires buffers { Buffers (filter_of program) input.old output.old }
     requires scratch_len { length scratch.old ≡ max_bytes }
-    ensures ready_2 { Ready result (length input.new) (length output.new) }
+    ensures still_ready { Ready result (length input.new) (length output.new) }
     ensures turns { Turns (filter_of program) s input.old output.old result input.new output.new }
 {
     match next(input, s) {
-        Action::Read => refill(source, input, output, s, reading, writing),
-        Action::Take => take(program, input, scratch, output, s, writing),
-        Action::End => finish(output, s, writing),
+        Action::Read => refill(rt, source, input, output, s, reading, writing),
+        Action::Take => take(rt, program, input, scratch, output, s, writing),
+        Action::End => finish(rt, output, s, writing),
     }
 }
 
 // The run over an input. A proved loop has to end, and nothing says that the input does: no run uses up this number of turns.
-pub fn run(program: Program, source: i32, before: Stream, reading: &[u8], writing: &[u8]) -> Stream
+pub fn run<R: Read>(
+    rt: &HostRuntime,
+    program: Program,
+    source: &mut R,
+    before: Stream,
+    reading: &[u8],
+    writing: &[u8],
+) -> Stream
     ensures { Runs (filter_of program) before result }
 {
     let mut input = Stream::buffer();
@@ -98,6 +108,7 @@ pub fn run(program: Program, source: i32, before: Stream, reading: &[u8], writin
             return s;
         }
         s = turn(
+            rt,
             program,
             source,
             &mut input,

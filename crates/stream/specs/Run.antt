@@ -1,5 +1,5 @@
 -- The run of a filter over an input: turn after turn, from the first on, until it has ended.
-use Rattle.std.specs.Prelude.{◌≡◌, ℕ, suc, ◌+◌, ◌-◌, ◌^◌, ◌<◌, ◌≤◌, true, false, ◌⊎◌, List, [], ◌++◌, length, take, drop, nat_lt}
+use Rattle.std.specs.Prelude.{◌≡◌, ℕ, suc, ◌-◌, ◌^◌, ◌<◌, ◌≤◌, true, false, ◌⊎◌, List, [], ◌++◌, length, take, drop, nat_lt}
 use Rattle.format.specs.Choice.{pick}
 use Rattle.format.specs.Answer.{Answer}
 use Rattle.format.specs.Envelope.{max_envelope, opening}

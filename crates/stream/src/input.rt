@@ -2,7 +2,8 @@
 ghost use Rattle.std.specs.Prelude.{◌≡◌, ◌-◌, ◌<◌, false, length, take};
 ghost use Rattle.stream.specs.Window.{Pulls, Within, unread, unused};
 
-use libc::EINTR;
+use crate::failure::has_failed;
+use std::io::Read;
 
 // Ended: there is no more input.
 #[derive(Clone, Copy)]
@@ -49,26 +50,33 @@ fn compact(buffer: &mut [u8], w: Window) -> usize
 
 // Reads once, behind the unused bytes, which stay; there is space for one more, so that a read of nothing is the
 // input's end. A read that a signal interrupts brings nothing; any other error is said on standard error.
-pub fn pull(source: i32, buffer: &mut [u8], w: Window, what: &[u8]) -> Pulled
+pub fn pull<R: Read>(
+    rt: &HostRuntime,
+    source: &mut R,
+    buffer: &mut [u8],
+    w: Window,
+    what: &[u8],
+) -> Pulled
     requires { Within w (length buffer.old) × (unused w < length buffer.old) }
     ensures { Pulls w buffer.old result.window buffer.new }
 {
     let end = compact(buffer, w);
-    let got = libc::read(source, &mut buffer[end..]);
-    let mut failed = false;
-    if got < 0 {
-        failed = os::errno() != EINTR;
-    }
-    if failed {
-        os::fail(what);
-    }
-    let n = io::count(got, &buffer[end..]);
-    Pulled {
-        window: Window {
-            start: 0,
-            end: end + n,
-            ended: got == 0,
+    match source.read(&mut buffer[end..]) {
+        Ok(n) => Pulled {
+            window: Window {
+                start: 0,
+                end: end + n,
+                ended: n == 0,
+            },
+            failed: false,
         },
-        failed,
+        Err(error) => Pulled {
+            window: Window {
+                start: 0,
+                end,
+                ended: false,
+            },
+            failed: has_failed(rt, what, &error),
+        },
     }
 }

@@ -1,11 +1,12 @@
 // Standard output, written whole.
 ghost use Rattle.std.specs.Prelude.{◌≡◌, true, length};
 
-use libc::{EINTR, STDOUT_FILENO};
+use crate::failure::{has_failed, say};
+use std::io::{Error, ErrorKind, Print};
 
 // Writes all of the bytes and answers true. An error is said on standard error, and false answered; a write that a
 // signal interrupts is tried again.
-pub fn put(bytes: &[u8], what: &[u8]) -> bool
+pub fn put(rt: &HostRuntime, bytes: &[u8], what: &[u8]) -> bool
     ensures { length bytes.now ≡ 0 → result ≡ true }
 {
     let mut sent = 0;
@@ -15,14 +16,18 @@ pub fn put(bytes: &[u8], what: &[u8]) -> bool
         if sent == bytes.len() {
             return true;
         }
-        let got = libc::write(STDOUT_FILENO, &bytes[sent..]);
-        if got < 1 {
-            if os::errno() != EINTR {
-                os::fail(what);
+        match rt.write_some(&bytes[sent..]) {
+            Ok(0) => {
+                say(rt, what, &Error::from(ErrorKind::WriteZero));
                 return false;
             }
+            Ok(n) => sent += n,
+            Err(error) => {
+                if has_failed(rt, what, &error) {
+                    return false;
+                }
+            }
         }
-        sent += io::count(got, &bytes[sent..]);
         turns -= 1;
     }
     false

@@ -7,6 +7,7 @@ ghost use Rattle.stream.specs.State.{Finishes, Flushes, Ready, Refills, action_o
 use crate::input::{Window, pull};
 use crate::output::put;
 use format::{Failure, Outcome};
+use std::io::Read;
 
 // The first envelope that was refused, by its number, and why.
 #[derive(Clone, Copy)]
@@ -182,14 +183,14 @@ pub fn fail(s: Stream) -> Stream
 }
 
 // Writes what waits. The run has ended where that fails.
-pub fn flush(output: &[u8], s: Stream, what: &[u8]) -> Stream
+pub fn flush(rt: &HostRuntime, output: &[u8], s: Stream, what: &[u8]) -> Stream
     requires { s.filled ≤ length output.now }
     ensures { Flushes s result }
 {
     let filled = s.filled;
     let window = s.window;
     let refusal = s.refusal;
-    let failed = !put(&output[..filled], what);
+    let failed = !put(rt, &output[..filled], what);
     Stream {
         window,
         filled: 0,
@@ -202,11 +203,11 @@ pub fn flush(output: &[u8], s: Stream, what: &[u8]) -> Stream
 }
 
 // Writes what waits, and ends the run.
-pub fn finish(output: &[u8], s: Stream, what: &[u8]) -> Stream
+pub fn finish(rt: &HostRuntime, output: &[u8], s: Stream, what: &[u8]) -> Stream
     requires { s.filled ≤ length output.now }
     ensures { Finishes s result }
 {
-    let flushed = flush(output, s, what);
+    let flushed = flush(rt, output, s, what);
     let window = flushed.window;
     let refusal = flushed.refusal;
     Stream {
@@ -221,8 +222,9 @@ pub fn finish(output: &[u8], s: Stream, what: &[u8]) -> Stream
 }
 
 // Writes what waits, so that nothing is held back, and then reads once. The run has ended where either fails.
-pub fn refill(
-    source: i32,
+pub fn refill<R: Read>(
+    rt: &HostRuntime,
+    source: &mut R,
     input: &mut [u8],
     output: &[u8],
     s: Stream,
@@ -232,12 +234,12 @@ pub fn refill(
     requires { Ready s (length input.old) (length output.now) × (unused s.window < length input.old) }
     ensures { Refills s input.old result input.new }
 {
-    let flushed = flush(output, s, writing);
+    let flushed = flush(rt, output, s, writing);
     if flushed.failed {
         return flushed;
     }
     let refusal = s.refusal;
-    let pulled = pull(source, input, s.window, reading);
+    let pulled = pull(rt, source, input, s.window, reading);
     let window = pulled.window;
     let failed = pulled.failed;
     Stream {
