@@ -148,6 +148,23 @@ fn output_that_nobody_reads() {
     }
 }
 
+#[test]
+fn nothing_is_said_where_nobody_reads() {
+    let input = envelope(b"\x00").repeat(100_000);
+    for program in &PROGRAMS {
+        let mut command = program.command();
+        command.stdin(Stdio::piped()).stdout(Stdio::piped());
+        let mut child = command.stderr(Stdio::piped()).spawn().expect("a process");
+        drop(child.stdout.take());
+        let mut pipe = child.stdin.take().expect("a pipe");
+        assert!(pipe.write_all(&input).is_err(), "{} reads on", program.name);
+        drop(pipe);
+        let ended = child.wait_with_output().expect("a process that ends");
+        assert_eq!(ended.stderr, b"");
+        assert_eq!(ended.status.code(), Some(2));
+    }
+}
+
 /// What `listing` prints for a stream of these envelopes again and again, envelope by envelope.
 fn listed_again_and_again(unit: &[u8]) -> impl Iterator<Item = Vec<u8>> {
     let listing = String::from_utf8(reference::listing(unit)).expect("ASCII");

@@ -1,5 +1,4 @@
 // What is said on standard error where reading, writing or opening fails.
-ghost use Rattle.std.specs.Prelude.{◌≤◌, length};
 
 use std::fmt;
 use std::fmt::Write;
@@ -74,11 +73,15 @@ pub fn say(rt: &HostRuntime, what: &[u8], error: &Error) {
     let _ = to.write_all(b"\n");
 }
 
-// Whether a call that did not succeed has failed, which is then said: one that a signal interrupts has not.
+// Whether a call that did not succeed has failed. One that a signal interrupts has not; else that is said, but where
+// nobody reads what is written: a reader that goes away ends a run without a word, as is usual.
 pub fn has_failed(rt: &HostRuntime, what: &[u8], error: &Error) -> bool {
-    if error.kind() == ErrorKind::Interrupted {
-        return false;
+    match error.kind() {
+        ErrorKind::Interrupted => false,
+        ErrorKind::BrokenPipe => true,
+        _ => {
+            say(rt, what, error);
+            true
+        }
     }
-    say(rt, what, error);
-    true
 }
