@@ -148,21 +148,31 @@ fn output_that_nobody_reads() {
     }
 }
 
+/// What a program says on standard error, and its status, where nobody reads its output.
+fn unread(program: &Program, input: &[u8]) -> (String, Option<i32>) {
+    let mut command = program.command();
+    command.stdin(Stdio::piped()).stdout(Stdio::piped());
+    let mut child = command.stderr(Stdio::piped()).spawn().expect("a process");
+    drop(child.stdout.take());
+    let mut pipe = child.stdin.take().expect("a pipe");
+    assert!(pipe.write_all(input).is_err(), "{} reads on", program.name);
+    drop(pipe);
+    let ended = child.wait_with_output().expect("a process that ends");
+    (String::from_utf8(ended.stderr).expect("ASCII"), ended.status.code())
+}
+
+/// Of a reader that goes away nothing is said, but of a refusal met before.
 #[test]
 fn nothing_is_said_where_nobody_reads() {
-    let input = envelope(b"\x00").repeat(100_000);
+    let good = envelope(b"\x00").repeat(100_000);
+    let refused = [envelope(b"\xE0"), good.clone()].concat();
     for program in &PROGRAMS {
-        let mut command = program.command();
-        command.stdin(Stdio::piped()).stdout(Stdio::piped());
-        let mut child = command.stderr(Stdio::piped()).spawn().expect("a process");
-        drop(child.stdout.take());
-        let mut pipe = child.stdin.take().expect("a pipe");
-        assert!(pipe.write_all(&input).is_err(), "{} reads on", program.name);
-        drop(pipe);
-        let ended = child.wait_with_output().expect("a process that ends");
-        assert_eq!(ended.stderr, b"");
-        assert_eq!(ended.status.code(), Some(2));
+        assert_eq!(unread(program, &good), (String::new(), Some(2)));
     }
+    let (said, status) = unread(&LISTING, &refused);
+    assert!(said.starts_with("listing: standard input: envelope 1: error 4 at 0: "), "{said}");
+    assert_eq!(said.lines().count(), 1);
+    assert_eq!(status, Some(2));
 }
 
 /// What `listing` prints for a stream of these envelopes again and again, envelope by envelope.

@@ -12,7 +12,7 @@ struct Words {
 }
 
 impl Words {
-    // The system's longest text has 50 bytes.
+    // The system's longest text has 49 bytes.
     const CAPACITY: usize = 128;
 
     fn new() -> Words {
@@ -73,15 +73,11 @@ pub fn say(rt: &HostRuntime, what: &[u8], error: &Error) {
     let _ = to.write_all(b"\n");
 }
 
-// Whether a call that did not succeed has failed. One that a signal interrupts has not; else that is said, but where
-// nobody reads what is written: a reader that goes away ends a run without a word, as is usual.
+// Whether a call that did not succeed has failed, which is then said: one that a signal interrupts has not.
 pub fn has_failed(rt: &HostRuntime, what: &[u8], error: &Error) -> bool {
-    match error.kind() {
-        ErrorKind::Interrupted => false,
-        ErrorKind::BrokenPipe => true,
-        _ => {
-            say(rt, what, error);
-            true
-        }
+    if error.kind() == ErrorKind::Interrupted {
+        return false;
     }
+    say(rt, what, error);
+    true
 }

@@ -5,7 +5,7 @@ use crate::failure::{has_failed, say};
 use std::io::{Error, ErrorKind, Print};
 
 // Writes all of the bytes and answers true. An error is said on standard error, and false answered; a write that a
-// signal interrupts is tried again.
+// signal interrupts is tried again. That nobody reads any more is not said, as is usual.
 pub fn put(rt: &HostRuntime, bytes: &[u8], what: &[u8]) -> bool
     ensures { length bytes.now ≡ 0 → result ≡ true }
 {
@@ -23,6 +23,9 @@ pub fn put(rt: &HostRuntime, bytes: &[u8], what: &[u8]) -> bool
             }
             Ok(n) => sent += n,
             Err(error) => {
+                if error.kind() == ErrorKind::BrokenPipe {
+                    return false;
+                }
                 if has_failed(rt, what, &error) {
                     return false;
                 }
