@@ -1,13 +1,13 @@
 -- Items measured: one more. Assumes nothing.
+use Rattle.std.specs.Prelude.{Option, None, Some, slice_get}
 use mathlib.Core.Path.{◌≡◌, refl, ap, sym, ◌∙◌}
 use mathlib.Core.Logic.{⊎_elim}
 use mathlib.Core.Bool.{true, false}
 use mathlib.Core.List.{List, [], ◌∷◌, ◌++◌, map, append-nil}
-use mathlib.Core.Option.{Option, none, some}
 use Prim.Native.Nat.{ℕ, ◌+◌, ◌≤◌, ◌<◌, zero-le}
 use native.Mathlib.Numerals.{add-one}
 use native.Mathlib.Omega.{arith}
-use lib.ListN.{length, take, get_or, set, get_elem?, replicate, length-set, length-append, length-replicate}
+use lib.ListN.{length, take, get_or, set, replicate, length-set, length-append, length-replicate}
 use lib.Dec.{eqb}
 use lib.Seq.{get_or-set_same, get_or-set_other, take-append-le, take-append_seam, take-suc-set}
 use Rattle.format.specs.Header.{header}
@@ -47,7 +47,7 @@ module _ (xs : List Item) (x : Item) where
       record {
         long = omega (arith, length-append xs (x ∷ []));
         refers = λ j y e n. ⊎_elim
-            (λ (q : get_elem? xs j ≡ some y). let l = at_lt xs j q in old j l ∙ p.refers j y q n
+            (λ (q : slice_get xs j ≡ Some y). let l = at_lt xs j q in old j l ∙ p.refers j y q n
             ∙ ap (λ (zs : List Item). refer_to (index y (names_from [] zs)))
             (sym (take-append-le j xs (x ∷ []) (omega arith))))
             (λ (q : (j ≡ length xs) × (x ≡ y)). rw (q.0, ← q.1, take-append_seam xs (x ∷ [])) (new (rw (← q.1) at n)))
@@ -56,11 +56,11 @@ module _ (xs : List Item) (x : Item) where
 
 -- ---- references
 
-refer_some : (o : Option ℕ) (i : ℕ) → o ≡ some i → refer_to o ≡ i
+refer_some : (o : Option ℕ) (i : ℕ) → o ≡ Some i → refer_to o ≡ i
 unfolding refer_to
 refer_some o i e = rw e
 
-refer_none : (o : Option ℕ) → o ≡ none → refer_to o ≡ 256
+refer_none : (o : Option ℕ) → o ≡ None → refer_to o ≡ 256
 unfolding refer_to
 refer_none o e = rw e
 
@@ -109,7 +109,7 @@ module _ {slots : ℕ} {a b es links plan : List ℕ} {xs : List Item} {count si
       same_names = names_more xs x ∙ noted-plain x (names_from [] xs) p
 
   -- a name that has an entry
-  pub measure_known : (i n : ℕ) → is_name x ≡ true → index x (names_from [] xs) ≡ some i → n ≡ length (header 7 i)
+  pub measure_known : (i n : ℕ) → is_name x ≡ true → index x (names_from [] xs) ≡ Some i → n ≡ length (header 7 i)
       → Measured slots a b es links (set plan (length xs) i) (xs ++ (x ∷ [])) count (size + n)
   measure_known i n p q e =
       record {
@@ -129,7 +129,7 @@ module _ {slots : ℕ} {a b es links plan : List ℕ} {xs : List Item} {count si
       same_names = names_more xs x ∙ noted-known x (names_from [] xs) q
 
   -- a name that gets one
-  pub measure_fresh : (es' links' plan' : List ℕ) (e n : ℕ) → is_name x ≡ true → index x (names_from [] xs) ≡ none
+  pub measure_fresh : (es' links' plan' : List ℕ) (e n : ℕ) → is_name x ≡ true → index x (names_from [] xs) ≡ None
       → utf8 x.content ≡ true → n ≡ length (full x)
       → Chained a b es' links' (count + 1) → es' ≡ set es count e → name_in a b e ≡ x
       → length plan' ≡ slots → ((j : ℕ) → j < length xs → get_or plan' j 0 ≡ get_or plan j 0) → get_or plan' (length xs) 0 ≡ 256
@@ -153,7 +153,7 @@ module _ {slots : ℕ} {a b es links plan : List ℕ} {xs : List Item} {count si
 
 -- A name that stands in the table is text.
 pub known-text : {slots : ℕ} {a b es links plan : List ℕ} {xs : List Item} {count size : ℕ}
-    → Measured slots a b es links plan xs count size → (x : Item) (i : ℕ) → index x (names_from [] xs) ≡ some i
+    → Measured slots a b es links plan xs count size → (x : Item) (i : ℕ) → index x (names_from [] xs) ≡ Some i
     → utf8 x.content ≡ true
 unfolding same_name
 known-text {xs = xs} m x i e =

@@ -1,11 +1,11 @@
 -- Items written one after the other as they were planned: each stands after those before it. Assumes nothing.
+use Rattle.std.specs.Prelude.{Option, None, Some, slice_get}
 use mathlib.Core.Path.{◌≡◌, refl, sym, ap, ◌∙◌}
 use mathlib.Core.List.{List, [], ◌∷◌, ◌++◌, append_assoc}
-use mathlib.Core.Option.{Option, none, some}
 use Prim.Native.Nat.{ℕ, ◌+◌, ◌≤◌}
 use native.Mathlib.Nat.{le_trans}
 use native.Mathlib.Omega.{arith}
-use lib.ListN.{length, take, drop, get_elem?, length-append}
+use lib.ListN.{length, take, drop, length-append}
 use lib.Seq.{take_at, drop-append-add, drop-drop}
 use Rattle.format.specs.Item.{Item, is_name}
 use Rattle.format.specs.Names.{index, names_from}
@@ -39,10 +39,10 @@ puts_then cs bs at r old new next p q =
 
 by_reference : (x : Item) (es : List Item) (o : Option ℕ) → index x es ≡ o → length es ≤ 256 → named o x ≡ referring (refer_to o) (full x)
 unfolding named referring refer_to
-by_reference x es none e l = sym (pick_no _ _ (ltb_no {a = 256} {b = 256} (omega arith)))
-by_reference x es (some i) e l = let h = at_lt es i (index_at x es e).at in sym (pick_yes _ _ (ltb_yes {a = i} {b = 256} (omega arith)))
+by_reference x es None e l = sym (pick_no _ _ (ltb_no {a = 256} {b = 256} (omega arith)))
+by_reference x es (Some i) e l = let h = at_lt es i (index_at x es e).at in sym (pick_yes _ _ (ltb_yes {a = i} {b = 256} (omega arith)))
 
-pub at_seam : {A : Type 0} (xs ys : List A) (x : A) → get_elem? (xs ++ (x ∷ ys)) (length xs) ≡ some x
+pub at_seam : {A : Type 0} (xs ys : List A) (x : A) → slice_get (xs ++ (x ∷ ys)) (length xs) ≡ Some x
 at_seam [] ys x = refl
 at_seam (y ∷ xs) ys x = at_seam xs ys x
 

@@ -1,7 +1,5 @@
 -- Items measured one after the other: the table of their names, their canonical length, and for each name how it is written.
-use Rattle.std.specs.Prelude.{ℕ, ◌≤◌, ◌≡◌, true, List, [], ltb, length, take, get_or}
-use Rattle.std.proofs.Math.Option.{Option, none, some}
-use Rattle.std.proofs.Math.ListN.{get_elem?}
+use Rattle.std.specs.Prelude.{ℕ, ◌≤◌, ◌≡◌, true, List, [], ltb, length, take, get_or, Option, None, Some, slice_get}
 use Rattle.format.specs.Choice.{pick}
 use Rattle.format.specs.Code as Code
 use Rattle.format.specs.Limits.{max_rows, max_entries}
@@ -19,8 +17,8 @@ no_index = max_entries
 
 -- A reference in the plan.
 unfoldable pub refer_to : Option ℕ → ℕ
-refer_to none = no_index
-refer_to (some i) = i
+refer_to None = no_index
+refer_to (Some i) = i
 
 -- A name by such a reference, where bs is the name in full.
 unfoldable pub referring : ℕ → List ℕ → List ℕ
@@ -33,14 +31,14 @@ encoded_at plan i x = pick (is_name x) (referring (get_or plan i 0) (full x)) (f
 -- The plan has the reference of each name.
 pub record Planned (plan : List ℕ) (xs : List Item) : Type 0 where
   pub long : length xs ≤ max_rows
-  pub refers : (j : ℕ) (x : Item) → get_elem? xs j ≡ some x → is_name x ≡ true → get_or plan j 0 ≡ refer_to (index x (names_from [] (take j xs)))
+  pub refers : (j : ℕ) (x : Item) → slice_get xs j ≡ Some x → is_name x ≡ true → get_or plan j 0 ≡ refer_to (index x (names_from [] (take j xs)))
 
 -- The items xs are measured: their names are the first entries of a table over the slices a and b. The plan is an array of so many slots.
 pub record Measured (slots : ℕ) (a b es links plan : List ℕ) (xs : List Item) (count size : ℕ) : Type 0 where
   pub table : Chained a b es links count
   pub names : names_in a b (take count es) ≡ names_from [] xs
   -- so that a name that stands in the table need not be looked at again
-  pub texts : (i : ℕ) (x : Item) → get_elem? (names_from [] xs) i ≡ some x → utf8 x.content ≡ true
+  pub texts : (i : ℕ) (x : Item) → slice_get (names_from [] xs) i ≡ Some x → utf8 x.content ≡ true
   pub length_is : size ≡ length (canonical xs)
   pub plan_size : length plan ≡ slots
   pub wide : max_rows ≤ slots

@@ -1,4 +1,5 @@
 -- Closing, case by case; and the envelope as it is written: the length, the version, the bundle. Assumes nothing.
+use Rattle.std.specs.Prelude.{Err, Ok}
 use mathlib.Core.Path.{◌≡◌, sym, ap, ◌∙◌}
 use Prim.Native.Nat.{ℕ, ◌+◌, ◌-◌, ◌≤◌, ◌<◌}
 use native.Mathlib.Omega.{arith}
@@ -6,12 +7,10 @@ use mathlib.Core.List.{List, [], ◌∷◌, ◌++◌, append-nil}
 use lib.ListN.{length, take, drop, set, length-drop}
 use borrow.Rule.Slice.PartMut.{put_mid}
 use Rattle.format.specs.declared.error.Error.TheVariants.{TooLong, OutputTooLong}
-use Rattle.format.specs.declared.written.Written.{Written}
-use Rattle.format.specs.declared.written.Written.TheVariants.{Done}
 use Rattle.format.specs.declared.failure.Failure.{Failure}
 use Rattle.format.specs.Choice.{pick}
 use Rattle.format.specs.Limits.{max_bytes}
-use Rattle.format.specs.Answer.{counted, fail, failed, good, stored, then}
+use Rattle.format.specs.Answer.{Answer, counted, fail, stored, then}
 use Rattle.format.specs.Written.{Writes, answer_of}
 use Rattle.format.specs.Header.{digits}
 use Rattle.format.specs.Envelope.{closing, envelope, overhead, version}
@@ -21,28 +20,28 @@ use Rattle.format.proofs.Envelopes.{length-envelope}
 use Rattle.wire.proofs.Wrote.{Wrote, wrote_front, byte, part_back, finish_all, tail}
 
 module _ (bs old : List ℕ) where
-  abbrev Closes : Written → List ℕ → Type 0
+  abbrev Closes : Answer ℕ → List ℕ → Type 0
   Closes r new = Writes (closing bs (length old)) old r new
 
-  closes_failed : {r : Written} {f : Failure} → answer_of r ≡ failed f → closing bs (length old) ≡ failed f → Closes r old
+  closes_failed : {r : Answer ℕ} {f : Failure} → answer_of r ≡ Err f → closing bs (length old) ≡ Err f → Closes r old
   unfolding counted then stored
   closes_failed q e = record { answer = q ∙ rw e; buffer = rw e }
 
-  pub closes_long : {r : Written} → answer_of r ≡ fail TooLong 0 → max_bytes < length bs → Closes r old
+  pub closes_long : {r : Answer ℕ} → answer_of r ≡ fail TooLong 0 → max_bytes < length bs → Closes r old
   unfolding closing pick fail
   closes_long q l = closes_failed q (rw (ltb_yes l))
 
   module _ (l : length bs ≤ max_bytes) where
-    pub closes_short : {r : Written} → answer_of r ≡ fail OutputTooLong 0 → length old < overhead + length bs → Closes r old
+    pub closes_short : {r : Answer ℕ} → answer_of r ≡ fail OutputTooLong 0 → length old < overhead + length bs → Closes r old
     unfolding closing pick fail
     closes_short q m = closes_failed q (rw (ltb_no l, ltb_yes m))
 
     pub closes_good : (r : ℕ) (new : List ℕ) → overhead + length bs ≤ length old → (r ≡ length (envelope bs))
-        × (new ≡ envelope bs ++ drop (length (envelope bs)) old) → Closes (Done r) new
+        × (new ≡ envelope bs ++ drop (length (envelope bs)) old) → Closes (Ok r) new
     unfolding closing counted then stored pick
     closes_good r new m h =
         let e = ltb_no m in
-        record { answer = rw (ltb_no l, e) (ap good h.0); buffer = rw (ltb_no l, e) h.1 }
+        record { answer = rw (ltb_no l, e) (ap Ok h.0); buffer = rw (ltb_no l, e) h.1 }
 
 -- The length was written, and the version is put behind it.
 module _ (bs old l : List ℕ) (el : l ≡ digits 2 (1 + length bs) ++ drop 2 old) (capacity : overhead + length bs ≤ length old) where
@@ -63,5 +62,5 @@ module _ (bs old l : List ℕ) (el : l ≡ digits 2 (1 + length bs) ++ drop 2 ol
     pub wrote : Wrote (envelope bs) old (put_mid 3 (length l' - 3) l' ys) (3 + m) []
     wrote = part_back bs ys m led (sym (append-nil bs)) (omega (arith, led.long)) (rw (length-envelope bs) capacity) em ey
 
-    pub closes : length bs ≤ max_bytes → Writes (closing bs (length old)) old (Done (3 + m)) (put_mid 3 (length l' - 3) l' ys)
+    pub closes : length bs ≤ max_bytes → Writes (closing bs (length old)) old (Ok (3 + m)) (put_mid 3 (length l' - 3) l' ys)
     closes l = closes_good bs old l _ _ capacity (finish_all wrote (omega arith))

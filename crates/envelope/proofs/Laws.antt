@@ -1,4 +1,5 @@
 -- An envelope whose bytes come in pieces. Assumes nothing.
+use Rattle.std.specs.Prelude.{Ok}
 use mathlib.Core.Path.{◌≡◌, refl, sym, ap, ◌∙◌}
 use Prim.Native.Nat.{ℕ, ◌+◌, ◌-◌, ◌≤◌, ◌<◌}
 use native.Mathlib.Omega.{arith}
@@ -7,7 +8,7 @@ use lib.ListN.{length, drop, get_or, length-append, length-drop, get_or-append}
 use lib.Seq.{take-append-le, drop-append-le}
 use Rattle.format.specs.declared.error.Error.TheVariants.{InvalidEnvelope}
 use Rattle.format.specs.Limits.{max_bytes}
-use Rattle.format.specs.Answer.{fail, good}
+use Rattle.format.specs.Answer.{fail}
 use Rattle.format.specs.Envelope.{max_envelope, opening, overhead, version}
 use Rattle.format.proofs.Tests.{ltb_yes, ltb_no, pick_yes, pick_no, order, equal}
 use Rattle.envelope.specs.Answers.{length_field, missing_from}
@@ -66,7 +67,7 @@ module _ (bs : List ℕ) where
         equal (get_or bs 2 0) version
         (λ e.
         opened (bs ++ more) (omega arith) (omega arith) (omega arith) (omega arith) (v ∙ e)
-        ∙ ap good (rw (q, drop-append-le overhead bs more (omega arith))
+        ∙ ap Ok (rw (q, drop-append-le overhead bs more (omega arith))
         (take-append-le (n - 1) (drop overhead bs) more (omega (arith, length-drop overhead bs))))
         ∙ sym (opened bs l p m f e))
         (λ e. other-version (bs ++ more) (omega arith) (omega arith) (omega arith) (omega arith) (λ z. e (sym v ∙ z))

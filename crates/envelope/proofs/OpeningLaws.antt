@@ -1,4 +1,5 @@
 -- Opening, case by case. Assumes nothing.
+use Rattle.std.specs.Prelude.{Err, Ok}
 use mathlib.Core.Path.{◌≡◌, ap, refl, sym, subst, ◌∙◌}
 use mathlib.Core.Logic.{◌≢◌}
 use Prim.Native.Nat.{ℕ, ◌+◌, ◌-◌, ◌*◌, ◌≤◌, ◌<◌}
@@ -11,7 +12,7 @@ use Rattle.format.specs.declared.failure.Failure.{Failure}
 use Rattle.format.specs.declared.error.Error.TheVariants.{InvalidEnvelope, UnsupportedVersion}
 use Rattle.format.specs.Choice.{pick}
 use Rattle.format.specs.Limits.{max_bytes}
-use Rattle.format.specs.Answer.{Answer, counted, fail, failed, good, then}
+use Rattle.format.specs.Answer.{Answer, counted, fail, then}
 use Rattle.format.specs.Header.{big_endian}
 use Rattle.format.specs.Envelope.{opening, overhead, version}
 use Rattle.format.proofs.Stored.{stored-failed}
@@ -49,13 +50,13 @@ module _ (bs : List ℕ) where
           unfolding opening length_field pick
           other-version v = rw (ltb_no l, ltb_no p, ltb_no m, ltb_no f, eqb_no v)
 
-          pub opened : get_or bs 2 0 ≡ version → opening bs ≡ good (take (length_field bs - 1) (drop overhead bs))
+          pub opened : get_or bs 2 0 ≡ version → opening bs ≡ Ok (take (length_field bs - 1) (drop overhead bs))
           unfolding opening length_field pick
           opened v = rw (ltb_no l, ltb_no p, ltb_no m, ltb_no f, eqb_yes v)
 
 -- What holds of both errors, and of each part that lies in the bytes, holds of opening them.
 pub opening-cases {ℓ} : (P : Answer (List ℕ) → Type ℓ) (bs : List ℕ) → P (fail InvalidEnvelope 0)
-    → P (fail UnsupportedVersion 0) → ((n : ℕ) → overhead + n ≤ length bs → P (good (take n (drop overhead bs))))
+    → P (fail UnsupportedVersion 0) → ((n : ℕ) → overhead + n ≤ length bs → P (Ok (take n (drop overhead bs))))
     → P (opening bs)
 opening-cases P bs length-bad version-bad fine =
     let n = length_field bs in
@@ -71,36 +72,36 @@ opening-cases P bs length-bad version-bad fine =
     (λ l. subst P (sym (no_length bs l)) length-bad)
 
 -- The bundle of an envelope that opens is a part of the bytes, as long as is answered.
-pub opens : (bs : List ℕ) {n : ℕ} → good n ≡ counted (opening bs) → (overhead + n ≤ length bs)
-    × (opening bs ≡ good (take n (drop overhead bs)))
+pub opens : (bs : List ℕ) {n : ℕ} → Ok n ≡ counted (opening bs) → (overhead + n ≤ length bs)
+    × (opening bs ≡ Ok (take n (drop overhead bs)))
 unfolding counted then fail
 opens bs {n} =
-    opening-cases (λ (a : Answer (List ℕ)). good n ≡ counted a → (overhead + n ≤ length bs) × (a ≡ good (take n (drop overhead bs)))) bs
+    opening-cases (λ (a : Answer (List ℕ)). Ok n ≡ counted a → (overhead + n ≤ length bs) × (a ≡ Ok (take n (drop overhead bs)))) bs
     (λ e. failed-good (sym e)) (λ e. failed-good (sym e))
     (λ m l e.
     let k : n ≡ m = good_inj e ∙ length-take-le m (drop overhead bs) (omega (arith, length-drop overhead bs)) in
-    (omega arith, ap (λ (i : ℕ). good (take i (drop overhead bs))) (sym k)))
+    (omega arith, ap (λ (i : ℕ). Ok (take i (drop overhead bs))) (sym k)))
 
-pub opens_as : (bs : List ℕ) {n : ℕ} → good n ≡ counted (opening bs) → (opening bs ≡ good (bundle_in (opening bs)))
+pub opens_as : (bs : List ℕ) {n : ℕ} → Ok n ≡ counted (opening bs) → (opening bs ≡ Ok (bundle_in (opening bs)))
     × (length (bundle_in (opening bs)) ≡ n)
 unfolding counted then bundle_in
 opens_as bs e = let q = (opens bs e).1 in
-    (q ∙ ap good (sym (ap bundle_in q)), ap (λ (a : Answer (List ℕ)). length (bundle_in a)) q ∙ sym (good_inj (e ∙ ap counted q)))
+    (q ∙ ap Ok (sym (ap bundle_in q)), ap (λ (a : Answer (List ℕ)). length (bundle_in a)) q ∙ sym (good_inj (e ∙ ap counted q)))
 
 -- Why it does not open is answered.
-pub refuses : (bs : List ℕ) {f : Failure} → failed f ≡ counted (opening bs) → opening bs ≡ failed f
+pub refuses : (bs : List ℕ) {f : Failure} → Err f ≡ counted (opening bs) → opening bs ≡ Err f
 refuses bs e = (stored-failed {A = ℕ} [] (opening bs) refl (sym e)).0
 
-pub counted-length : (bs : List ℕ) (n : ℕ) → overhead + n ≤ length bs → opening bs ≡ good (take n (drop overhead bs))
-    → good n ≡ counted (opening bs)
+pub counted-length : (bs : List ℕ) (n : ℕ) → overhead + n ≤ length bs → opening bs ≡ Ok (take n (drop overhead bs))
+    → Ok n ≡ counted (opening bs)
 unfolding counted then
-counted-length bs n l e = rw e (ap good (sym (length-take-le n (drop overhead bs) (omega (arith, length-drop overhead bs)))))
+counted-length bs n l e = rw e (ap Ok (sym (length-take-le n (drop overhead bs) (omega (arith, length-drop overhead bs)))))
 
 -- Where it does not open, there is no bundle,
-pub opens_nothing : (bs : List ℕ) {f : Failure} → failed f ≡ counted (opening bs) → bundle_in (opening bs) ≡ []
+pub opens_nothing : (bs : List ℕ) {f : Failure} → Err f ≡ counted (opening bs) → bundle_in (opening bs) ≡ []
 unfolding counted then fail bundle_in
 opens_nothing bs {f} =
-    opening-cases (λ (a : Answer (List ℕ)). failed f ≡ counted a → bundle_in a ≡ []) bs (λ e. refl) (λ e. refl) (λ n l e. failed-good e)
+    opening-cases (λ (a : Answer (List ℕ)). Err f ≡ counted a → bundle_in a ≡ []) bs (λ e. refl) (λ e. refl) (λ n l e. failed-good e)
 
 -- and the error is answered.
 pub fails : (bs : List ℕ) (e : Error) → opening bs ≡ fail e 0 → fail e 0 ≡ counted (opening bs)

@@ -1,20 +1,20 @@
 -- The bundle in an envelope, what the envelope takes of the bytes, and how many are missing.
-use Rattle.std.specs.Prelude.{ℕ, ◌+◌, ◌-◌, List, [], length, take, ltb}
+use Rattle.std.specs.Prelude.{ℕ, ◌+◌, ◌-◌, List, [], length, take, ltb, Err, Ok}
 use Rattle.format.specs.Choice.{pick}
 use Rattle.format.specs.Limits.{max_bytes}
-use Rattle.format.specs.Answer.{Answer, failed, good}
+use Rattle.format.specs.Answer.{Answer}
 use Rattle.format.specs.Header.{big_endian}
 use Rattle.format.specs.Envelope.{overhead}
 
 -- The bundle, or an empty part on an error.
 unfoldable pub bundle_in : Answer (List ℕ) → List ℕ
-bundle_in (failed f) = []
-bundle_in (good bs) = bs
+bundle_in (Err f) = []
+bundle_in (Ok bs) = bs
 
 -- How many bytes the envelope takes; none where it is refused.
 unfoldable pub size_in : Answer (List ℕ) → ℕ
-size_in (failed f) = 0
-size_in (good bs) = overhead + length bs
+size_in (Err f) = 0
+size_in (Ok bs) = overhead + length bs
 
 -- The bytes of the length, which stands before the version.
 abbrev pub length_size : ℕ

@@ -1,12 +1,12 @@
 -- Error 3: its place, and the row beside it. Each rule but that one gives another error, with no row. Assumes nothing.
+use Rattle.std.specs.Prelude.{Option, None, Some, slice_get, Err, Ok}
 use mathlib.Core.Path.{◌≡◌, refl, sym, ap, ◌∙◌, subst}
 use mathlib.Core.Logic.{◌≢◌}
 use Prim.Native.Nat.{ℕ, zero, suc, ◌+◌, ◌≤◌, ◌<◌}
 use native.Mathlib.Omega.{arith}
 use mathlib.Core.Bool.{Bool, true, false, not, ◌&&◌}
 use mathlib.Core.List.{List, [], ◌∷◌}
-use mathlib.Core.Option.{Option, none, some}
-use lib.ListN.{length, take, drop, get_elem?, length-drop}
+use lib.ListN.{length, take, drop, length-drop}
 use lib.Seq.{drop-drop}
 use lib.Dec.{leb, ltb}
 use Rattle.format.specs.declared.row.Row.{Row}
@@ -14,7 +14,7 @@ use Rattle.format.specs.declared.error.Error.{Error}
 use Rattle.format.specs.declared.error.Error.TheVariants.{InvalidRow, InvalidUtf8, NotCanonical, OutputTooLong, TooDeep, TooLong, TooManyEntries, TooManyRows, Truncated, UndefinedReference, UnexpectedKey}
 use Rattle.format.specs.Choice.{pick}
 use Rattle.format.specs.Error.{code_of}
-use Rattle.format.specs.Answer.{Answer, Failure, Rule, fail, failed, failure, first, good, rule, then, unless}
+use Rattle.format.specs.Answer.{Answer, Failure, Rule, fail, failure, first, rule, then, unless}
 use Rattle.format.specs.Kind as Kind
 use Rattle.format.specs.Header.{Header, header_of}
 use Rattle.format.specs.Utf8.{bad_at, utf8}
@@ -34,19 +34,19 @@ use Rattle.format.proofs.Writes.{row-placed}
 -- ---- rules and answers
 
 -- The first rule gives the failure, or those after it do.
-by_first {ℓ} : {X : Type ℓ} (r : Rule) (rs : List Rule) {f : Failure} → first (r ∷ rs) ≡ some f
-    → (r.applies ≡ true → r.gives ≡ f → X) → (r.applies ≡ false → first rs ≡ some f → X) → X
+by_first {ℓ} : {X : Type ℓ} (r : Rule) (rs : List Rule) {f : Failure} → first (r ∷ rs) ≡ Some f
+    → (r.applies ≡ true → r.gives ≡ f → X) → (r.applies ≡ false → first rs ≡ Some f → X) → X
 unfolding first
 by_first r rs e g h =
     cases r.applies (λ a. g a (some_inj (sym (pick_yes _ _ a) ∙ e))) (λ a. h a (sym (pick_no _ _ a) ∙ e))
 
-no-rule {ℓ} : {X : Type ℓ} {f : Failure} → first [] ≡ some f → X
+no-rule {ℓ} : {X : Type ℓ} {f : Failure} → first [] ≡ Some f → X
 unfolding first
 no-rule e = none-some e
 
 -- A choice that fails does so in one of its parts.
-by-choice {ℓ} : {X : Type ℓ} {A : Type 0} (b : Bool) (x y : Answer A) {f : Failure} → pick b x y ≡ failed f
-    → (x ≡ failed f → X) → (y ≡ failed f → X) → X
+by-choice {ℓ} : {X : Type ℓ} {A : Type 0} (b : Bool) (x y : Answer A) {f : Failure} → pick b x y ≡ Err f
+    → (x ≡ Err f → X) → (y ≡ Err f → X) → X
 by-choice b x y e g h = cases b (λ a. g (sym (pick_yes _ _ a) ∙ e)) (λ a. h (sym (pick_no _ _ a) ∙ e))
 
 -- A rule for a text that is not good applies.
@@ -64,19 +64,19 @@ other n q = n (ap code_of q)
 -- The law of some of the rows, from the row of number k on.
 pub record Refused (text : List ℕ) (k : ℕ) (rs : List Row) (f : Failure) : Type 0 where
   pub bad_text : f.error ≡ InvalidUtf8
-      → (i : ℕ) × (f.row ≡ k + i) × (r : Row) × (get_elem? rs i ≡ some r) × BadRow text r f.place
+      → (i : ℕ) × (f.row ≡ k + i) × (r : Row) × (slice_get rs i ≡ Some r) × BadRow text r f.place
   pub other : f.error ≢ InvalidUtf8 → f.row ≡ 0
 
 module _ (text : List ℕ) (k : ℕ) (rs : List Row) {f : Failure} where
   plainly : (e : Error) (p : ℕ) → code_of e ≢ 3 → failure e p ≡ f → Refused text k rs f
   plainly e p n q = subst (Refused text k rs) q (record { bad_text = λ z. absurd (other n z); other = λ _. refl })
 
-  plain-fail : {A : Type 0} (e : Error) (p : ℕ) → code_of e ≢ 3 → ◌≡◌ {A = Answer A} (fail e p) (failed f)
+  plain-fail : {A : Type 0} (e : Error) (p : ℕ) → code_of e ≢ 3 → ◌≡◌ {A = Answer A} (fail e p) (Err f)
       → Refused text k rs f
   unfolding fail
   plain-fail e p n q = plainly e p n (failed_inj q)
 
-row-refused : (text : List ℕ) (s : Progress) (r : Row) (rs : List Row) {f : Failure} → first (row_rules text s r) ≡ some f
+row-refused : (text : List ℕ) (s : Progress) (r : Row) (rs : List Row) {f : Failure} → first (row_rules text s r) ≡ Some f
     → Refused text s.row (r ∷ rs) f
 unfolding row_rules rule item_at is_text
 row-refused text s r rs e =
@@ -106,7 +106,7 @@ row-refused text s r rs e =
     by_first _ _ e (λ _. plain TooManyEntries _ (omega arith)) (λ _ e. no-rule e)))))
 
 -- The first row is refused, or it is taken and one after it is.
-judge-refused : (text : List ℕ) (s : Progress) (rs : List Row) {f : Failure} → judge text s rs ≡ failed f
+judge-refused : (text : List ℕ) (s : Progress) (rs : List Row) {f : Failure} → judge text s rs ≡ Err f
     → Refused text s.row rs f
 unfolding judge then unless with_item
 judge-refused text s [] e =
@@ -122,26 +122,26 @@ judge-refused text s (r ∷ rs) {f} e =
     }
 
     go : (q : Option Failure) → first (row_rules text s r) ≡ q
-        → then (unless q (with_item s (item_at text r))) (λ t. judge text t rs) ≡ failed f
-        → (judge text (with_item s (item_at text r)) rs ≡ failed f → Refused text (suc s.row) rs f)
+        → then (unless q (with_item s (item_at text r))) (λ t. judge text t rs) ≡ Err f
+        → (judge text (with_item s (item_at text r)) rs ≡ Err f → Refused text (suc s.row) rs f)
         → Refused text s.row (r ∷ rs) f
-    go (some g) q e rest = row-refused text s r rs (q ∙ ap some (failed_inj e))
-    go none q e rest = later (rest e)
+    go (Some g) q e rest = row-refused text s r rs (q ∙ ap Some (failed_inj e))
+    go None q e rest = later (rest e)
 
-pub refused_writing_law : (rs : List Row) (text : List ℕ) (capacity : ℕ) {f : Failure} → writing rs text capacity ≡ failed f
+pub refused_writing_law : (rs : List Row) (text : List ℕ) (capacity : ℕ) {f : Failure} → writing rs text capacity ≡ Err f
     → RefusedWritingLaw rs text f
 unfolding writing then fitted begin
 refused_writing_law rs text capacity {f} e =
-    let plain : (e : Error) → code_of e ≢ 3 → ◌≡◌ {A = Answer (List ℕ)} (fail e 0) (failed f) → Refused text 0 rs f =
+    let plain : (e : Error) → code_of e ≢ 3 → ◌≡◌ {A = Answer (List ℕ)} (fail e 0) (Err f) → Refused text 0 rs f =
     λ e n. plain-fail text 0 rs e 0 n in
     whole
     (by-choice _ _ _ e (plain TooManyRows (omega arith)) (λ e.
     by-choice _ _ _ e (plain TooLong (omega arith)) (λ e. go (judge text begin rs) refl e)))
   where
-    go : (r : Answer Progress) → judge text begin rs ≡ r → then r (λ s. fitted capacity (canonical s.items)) ≡ failed f
+    go : (r : Answer Progress) → judge text begin rs ≡ r → then r (λ s. fitted capacity (canonical s.items)) ≡ Err f
         → Refused text 0 rs f
-    go (failed g) q e = judge-refused text begin rs (q ∙ ap failed (failed_inj e))
-    go (good s) q e =
+    go (Err g) q e = judge-refused text begin rs (q ∙ ap Err (failed_inj e))
+    go (Ok s) q e =
         by-choice _ _ _ e (λ z. plain-fail text 0 rs OutputTooLong 0 (omega arith) z) (λ z. failed-good (sym z))
 
     whole : Refused text 0 rs f → RefusedWritingLaw rs text f
@@ -181,13 +181,13 @@ bad-content (content k) p at rest es w e =
     }
 bad-content reference p at rest es w e = clash e refl
 
-unless-failed : {A : Type 0} (a : A) {f : Failure} (q : Option Failure) → unless q a ≡ failed f → q ≡ some f
+unless-failed : {A : Type 0} (a : A) {f : Failure} (q : Option Failure) → unless q a ≡ Err f → q ≡ Some f
 unfolding unless
-unless-failed a none e = failed-good (sym e)
-unless-failed a (some g) e = ap some (failed_inj e)
+unless-failed a None e = failed-good (sym e)
+unless-failed a (Some g) e = ap Some (failed_inj e)
 
 -- Where bad content is in the whole bytes.
-located : (o : Options) (bs : List ℕ) (s : State) → Passes o bs s → (h : Header) → header_of (drop s.at bs) ≡ some h
+located : (o : Options) (bs : List ℕ) (s : State) → Passes o bs s → (h : Header) → header_of (drop s.at bs) ≡ Some h
     → {c : List ℕ} → BadContent (form_of h) h.payload (drop h.size (drop s.at bs)) c
     → BadItem o bs (s.at + h.size + bad_at c)
 located o bs s passed h q {c} b =
@@ -216,16 +216,16 @@ module _ (o : Options) (bs : List ℕ) {f : Failure} where
   plain-item : (e : Error) (p : ℕ) → code_of e ≢ 3 → failure e p ≡ f → RefusedReadingLaw o bs f
   plain-item e p n q = subst (RefusedReadingLaw o bs) q (record { bad_text = λ z. absurd (other n z); row = refl })
 
-  plain_end : {A : Type 0} (e : Error) (p : ℕ) → code_of e ≢ 3 → ◌≡◌ {A = Answer A} (fail e p) (failed f)
+  plain_end : {A : Type 0} (e : Error) (p : ℕ) → code_of e ≢ 3 → ◌≡◌ {A = Answer A} (fail e p) (Err f)
       → RefusedReadingLaw o bs f
   unfolding fail
   plain_end e p n q = plain-item e p n (failed_inj q)
 
   headed-refused : (s : State) → Passes o bs s → (r : Option Header) → header_of (drop s.at bs) ≡ r
-      → headed o s r (drop s.at bs) ≡ failed f → RefusedReadingLaw o bs f
+      → headed o s r (drop s.at bs) ≡ Err f → RefusedReadingLaw o bs f
   unfolding headed item_rules rule
-  headed-refused s passed none q e = plain_end Truncated s.at (omega arith) e
-  headed-refused s passed (some h) q e =
+  headed-refused s passed None q e = plain_end Truncated s.at (omega arith) e
+  headed-refused s passed (Some h) q e =
       by_first _ _ (unless-failed _ _ e) (λ _. plain-item NotCanonical _ (omega arith)) (λ _ e.
       by_first _ _ e (λ _. plain-item UndefinedReference _ (omega arith)) (λ _ e.
       by_first _ _ e (λ _. plain-item UnexpectedKey _ (omega arith)) (λ _ e.
@@ -242,14 +242,14 @@ module _ (o : Options) (bs : List ℕ) {f : Failure} where
       by_first _ _ e (λ _. plain-item TooManyEntries _ (omega arith)) (λ _ e.
       by_first _ _ e (λ _. plain-item TooManyRows _ (omega arith)) (λ _ e. no-rule e)))))))))
 
-  end_refused : (s : State) → length bs ≤ s.at → run o s 0 (drop s.at bs) ≡ failed f → RefusedReadingLaw o bs f
+  end_refused : (s : State) → length bs ≤ s.at → run o s 0 (drop s.at bs) ≡ Err f → RefusedReadingLaw o bs f
   unfolding ending
   end_refused s l e =
       by-choice (due s.place) _ _ (sym (run_end o s bs l) ∙ e)
       (λ q. plain_end Truncated s.at (omega arith) q) (λ q. failed-good (sym q))
 
   -- Item by item, over n bytes at most: one is refused, or it is good and what comes after it is refused.
-  run-refused : (n : ℕ) (s : State) → length bs ≤ s.at + n → Passes o bs s → run o s 0 (drop s.at bs) ≡ failed f
+  run-refused : (n : ℕ) (s : State) → length bs ≤ s.at + n → Passes o bs s → run o s 0 (drop s.at bs) ≡ Err f
       → RefusedReadingLaw o bs f
   unfolding item
   run-refused zero s l passed e = end_refused s (omega arith) e
@@ -258,15 +258,15 @@ module _ (o : Options) (bs : List ℕ) {f : Failure} where
       (λ m. go (item o s (drop s.at bs)) refl m (λ t k passed q. run-refused n t k passed q))
     where
       go : (r : Answer State) → item o s (drop s.at bs) ≡ r → s.at < length bs
-          → ((t : State) → length bs ≤ t.at + n → Passes o bs t → run o t 0 (drop t.at bs) ≡ failed f
+          → ((t : State) → length bs ≤ t.at + n → Passes o bs t → run o t 0 (drop t.at bs) ≡ Err f
           → RefusedReadingLaw o bs f)
           → RefusedReadingLaw o bs f
-      go (failed g) q m rest =
+      go (Err g) q m rest =
           headed-refused s passed (header_of (drop s.at bs)) refl (q ∙ sym (run-failed o s bs m q) ∙ e)
-      go (good t) q m rest =
+      go (Ok t) q m rest =
           rest t (omega (arith, step_forward (item-step (drop s.at bs) q))) (next passed q) (sym (run-to o s bs q) ∙ e)
 
-pub refused_reading_law : (o : Options) (bs : List ℕ) {f : Failure} → reading o bs ≡ failed f → RefusedReadingLaw o bs f
+pub refused_reading_law : (o : Options) (bs : List ℕ) {f : Failure} → reading o bs ≡ Err f → RefusedReadingLaw o bs f
 unfolding reading start
 refused_reading_law o bs e =
     by-choice _ _ _ e (λ q. plain_end o bs TooLong 0 (omega arith) q)

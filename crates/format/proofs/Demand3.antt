@@ -1,14 +1,13 @@
 -- Demand 3 of a call that joins: proves the statement of specs/Demand3. A call keeps the promise of `joining`, and what
 -- joining comes to is told by the items of both bundles (proofs/Joins). Assumes nothing.
+use Rattle.std.specs.Prelude.{Err, Ok}
 use mathlib.Core.Path.{◌≡◌, refl, sym, ap, ◌∙◌}
 use Prim.Native.Nat.{ℕ, ◌≤◌}
 use mathlib.Core.List.{List, ◌++◌, append_assoc, append-nil}
 use lib.ListN.{length, take, drop}
-use Rattle.format.specs.declared.written.Written.{Written}
-use Rattle.format.specs.declared.written.Written.TheVariants.{Done, Failed}
 use Rattle.format.specs.Limits.{max_rows}
-use Rattle.format.specs.Answer.{Answer, Failure, counted, fail, failed, good, on_side, sided, stored, then}
-use Rattle.format.specs.Written.{Writes, answer_of}
+use Rattle.format.specs.Answer.{Answer, Failure, counted, fail, on_side, sided, stored, then}
+use Rattle.format.specs.Written.{Writes}
 use Rattle.format.specs.Item.{Item}
 use Rattle.format.specs.Reading.{Options}
 use Rattle.format.specs.Canonical.{canonical}
@@ -23,45 +22,38 @@ use Rattle.format.proofs.Joins.{exceeds_refused, fits_else, join_result, joining
 
 -- ---- a call that keeps its promise, by what the definition gives
 
--- Answers that mean the same are the same.
-pub same : (r s : Written) → answer_of r ≡ answer_of s → r ≡ s
-same (Done m) (Done n) q = ap Done (good_inj q)
-same (Done m) (Failed f) q = failed-good (sym q)
-same (Failed f) (Done n) q = failed-good q
-same (Failed f) (Failed g) q = ap Failed (failed_inj q)
-
-module _ {result : Answer (List ℕ)} {old new : List ℕ} {r : Written} (w : Writes result old r new) where
-  gives : {bs : List ℕ} → result ≡ good bs → (r ≡ Done (length bs)) × (new ≡ bs ++ drop (length bs) old)
+module _ {result : Answer (List ℕ)} {old new : List ℕ} {r : Answer ℕ} (w : Writes result old r new) where
+  gives : {bs : List ℕ} → result ≡ Ok bs → (r ≡ Ok (length bs)) × (new ≡ bs ++ drop (length bs) old)
   unfolding counted stored then
-  gives e = (same r (Done _) (w.answer ∙ ap counted e), w.buffer ∙ ap (stored old) e)
+  gives e = (w.answer ∙ ap counted e, w.buffer ∙ ap (stored old) e)
 
-  fails : {f : Failure} → result ≡ failed f → (r ≡ Failed f) × (new ≡ old)
+  fails : {f : Failure} → result ≡ Err f → (r ≡ Err f) × (new ≡ old)
   unfolding counted stored then
-  fails e = (same r (Failed _) (w.answer ∙ ap counted e), w.buffer ∙ ap (stored old) e)
+  fails e = (w.answer ∙ ap counted e, w.buffer ∙ ap (stored old) e)
 
-  given : {n : ℕ} → r ≡ Done n → (result ≡ good (take n new)) × (length (take n new) ≡ n)
-  given e = stored-counted old _ w.buffer (sym w.answer ∙ ap answer_of e)
+  given : {n : ℕ} → r ≡ Ok n → (result ≡ Ok (take n new)) × (length (take n new) ≡ n)
+  given e = stored-counted old _ w.buffer (sym w.answer ∙ e)
 
-  failed_with : {f : Failure} → r ≡ Failed f → (result ≡ failed f) × (new ≡ old)
-  failed_with e = stored-failed old _ w.buffer (sym w.answer ∙ ap answer_of e)
+  failed_with : {f : Failure} → r ≡ Err f → (result ≡ Err f) × (new ≡ old)
+  failed_with e = stored-failed old _ w.buffer (sym w.answer ∙ e)
 
-failure_of : {r : Written} → Refused r → (f : Failure) × (r ≡ Failed f)
+failure_of : {r : Answer ℕ} → Refused r → (f : Failure) × (r ≡ Err f)
 failure_of refused = (_, refl)
 
-is-refused : {r : Written} {f : Failure} → r ≡ Failed f → Refused r
+is-refused : {r : Answer ℕ} {f : Failure} → r ≡ Err f → Refused r
 is-refused e = rw e refused
 
 module _ (o : Options) where
   -- ---- two bundles
 
-  of_two : {a b old new : List ℕ} {xs ys : List Item} {r : Written} → Means o a xs → Means o b ys
+  of_two : {a b old new : List ℕ} {xs ys : List Item} {r : Answer ℕ} → Means o a xs → Means o b ys
       → Joins o a b old r new → OfTwo o xs ys old r new
   unfolding fail
   of_two {old = old} {xs = xs} {ys} p q j =
       let n = length old in
       let zs = xs ++ ys in
       let e = joining-both n p q in
-      let answered : (Exceeds n zs → ⊥) → joining o _ _ n ≡ good (canonical zs) = λ x. e ∙ together-fits n zs (fits_else n zs x) in
+      let answered : (Exceeds n zs → ⊥) → joining o _ _ n ≡ Ok (canonical zs) = λ x. e ∙ together-fits n zs (fits_else n zs x) in
       record {
         result = λ k. (together-good n zs (sym e ∙ (given j k).0)).1;
         refused = (
@@ -73,12 +65,12 @@ module _ (o : Options) where
         untouched = λ x. (failed_with j (failure_of x).1).1;
         rows_first = λ l. (fails j (e ∙ together-rows n zs l)).0;
         names_next = λ l m. (fails j (e ∙ together-names n zs l m)).0;
-        size_last = λ l m x. let (f, k) = failure_of x in k ∙ ap Failed (size-refused n zs l m (sym e ∙ (failed_with j k).0));
+        size_last = λ l m x. let (f, k) = failure_of x in k ∙ ap Err (size-refused n zs l m (sym e ∙ (failed_with j k).0));
       }
 
   -- ---- the empty bundle, and three
 
-  yields_of : {result : Answer (List ℕ)} {old new : List ℕ} {xs : List Item} {r : Written}
+  yields_of : {result : Answer (List ℕ)} {old new : List ℕ} {xs : List Item} {r : Answer ℕ}
       → result ≡ fitted (length old) (canonical xs) → Writes result old r new → Yields o xs old r new
   unfolding fail
   yields_of {old = old} {xs = xs} e w =

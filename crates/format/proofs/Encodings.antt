@@ -1,4 +1,5 @@
 -- Lenient reading takes exactly the encodings of items. Assumes nothing.
+use Rattle.std.specs.Prelude.{Some, Ok}
 use mathlib.Core.Path.{◌≡◌, refl, sym, ap, ◌∙◌, subst}
 use mathlib.Core.Logic.{◌≢◌}
 use Prim.Native.Nat.{ℕ, zero, suc, ◌+◌, ◌-◌, ◌*◌, ◌^◌, ◌≤◌, ◌<◌, min}
@@ -7,13 +8,12 @@ use native.Mathlib.Numerals.{one-add}
 use native.Mathlib.Omega.{arith}
 use mathlib.Core.Bool.{true, false, not, ◌&&◌}
 use mathlib.Core.List.{List, [], ◌∷◌, ◌++◌, append_assoc, append-nil}
-use mathlib.Core.Option.{some}
 use lib.ListN.{length, take, drop, length-append, take-append-drop}
 use lib.Seq.{drop-drop, length-take-le}
 use lib.Dec.{ltb}
 use Rattle.format.specs.Choice.{pick}
 use Rattle.format.specs.Limits.{max_entries, max_rows}
-use Rattle.format.specs.Answer.{good, then}
+use Rattle.format.specs.Answer.{then}
 use Rattle.format.specs.Header.{Header, digits, following, header, header_of, is_negative_alias, shift}
 use Rattle.format.specs.Utf8.{utf8}
 use Rattle.format.specs.Item.{Item, held, is_name, is_text, plain}
@@ -44,7 +44,7 @@ use Rattle.format.proofs.Joins.{items-reading, reading-items}
 record Line (code p : ℕ) (hs : List ℕ) : Type 0 where
   sz : ℕ
   sized : code ≡ 0 → 5 ≤ sz
-  read : (rest : List ℕ) → header_of (hs ++ rest) ≡ some (record { code = code; sz = sz; payload = p; size = length hs })
+  read : (rest : List ℕ) → header_of (hs ++ rest) ≡ Some (record { code = code; sz = sz; payload = p; size = length hs })
 
 heading_line : {code p : ℕ} {hs : List ℕ} → Heading code p hs → Line code p hs
 unfolding header shortest header_bytes header_with payload_in
@@ -52,7 +52,7 @@ heading_line {code} {p} (wire.inline l) =
     record {
       sz = sz_of code p;
       sized = λ e. rw e (sz_zero p);
-      read = λ rest. subst (λ (hs : List ℕ). header_of (hs ++ rest) ≡ some
+      read = λ rest. subst (λ (hs : List ℕ). header_of (hs ++ rest) ≡ Some
           (record { code = code; sz = sz_of code p; payload = p; size = length hs }))
           (pick_yes _ _ (ltb_yes {a = p + shift code} {b = 24} (omega arith))) (header_of-header code p rest (omega arith));
     }
@@ -238,7 +238,7 @@ content_piece {bs} {h} {k} es (Forms.held f g l e) d w u x q =
     })
 
 form_piece : {bs : List ℕ} {h : Header} (f : Form) → FormIs h f → Headed bs h → (at : ℕ) (es : List Found) (x : Found)
-    → item_of f h.payload at (drop h.size bs) es ≡ some x
+    → item_of f h.payload at (drop h.size bs) es ≡ Some x
     → is_content f && ltb (length (drop h.size bs)) h.payload ≡ false
     → is_content f && is_text x.item && not (utf8 x.item.content) ≡ false
     → Piece (items_of es) x.item bs (drop (h.size + pick (is_content f) h.payload 0) bs)
@@ -286,7 +286,7 @@ reads_encodes (more {s = s} {t = t} {bs = bs} p r) b =
 -- ---- a bundle
 
 -- Bytes that read are readable, and readable bytes read.
-pub readable : (o : Options) {xs : List Item} (bs : List ℕ) → Bytes bs → items o bs ≡ good xs → Readable o.capacity bs xs
+pub readable : (o : Options) {xs : List Item} (bs : List ℕ) → Bytes bs → items o bs ≡ Ok xs → Readable o.capacity bs xs
 unfolding start items_of
 readable o {xs} bs b e =
     let (u, p, q) = items-reading o bs e in
@@ -309,12 +309,12 @@ unfolding start items_of
 readable_back o {xs} lax r = encodes_back start lax r.encoded refl ((grammar_law xs).accepts r.grammar).0
     (omega (arith, r.rows, r.table)) r.few
 
-pub readable_items : (o : Options) {xs : List Item} {bs : List ℕ} → o.strict ≡ false → Readable o.capacity bs xs → items o bs ≡ good xs
+pub readable_items : (o : Options) {xs : List Item} {bs : List ℕ} → o.strict ≡ false → Readable o.capacity bs xs → items o bs ≡ Ok xs
 unfolding start items_of
 readable_items o {bs = bs} lax r = let k = readable_back o lax r in reading-items o bs (reads-reading r.size k.reads) k.found
 
 pub readable_counts : (o : Options) {xs : List Item} {bs : List ℕ} → o.strict ≡ false → (r : Readable o.capacity bs xs)
-    → counts o bs ≡ good (record { rows = length xs; entries = length r.entries; fields = r.fields })
+    → counts o bs ≡ Ok (record { rows = length xs; entries = length r.entries; fields = r.fields })
 unfolding counts counts_of then start items_of
 readable_counts o {xs} {bs} lax r =
     let k = readable_back o lax r in
@@ -323,4 +323,4 @@ readable_counts o {xs} {bs} lax r =
     let entries : length k.u.entries ≡ length r.entries = sym (length-items k.u.entries) ∙ ap length k.entries in
     let fields : k.u.place.fields ≡ r.fields = reading-fields o bs e ∙ ap fields_of k.found
     ∙ ((grammar_law xs).accepts r.grammar).1 in
-    rw e (λ j. good (record { rows = rows j; entries = entries j; fields = fields j }))
+    rw e (λ j. Ok (record { rows = rows j; entries = entries j; fields = fields j }))

@@ -1,17 +1,16 @@
 -- A bundle that reads, item by item, with the state that reading has come to: the next item by its header, and the end. Assumes nothing.
+use Rattle.std.specs.Prelude.{None, Some, slice_get, Ok}
 use mathlib.Core.Path.{◌≡◌, refl, sym, ap, ◌∙◌, subst}
 use mathlib.Core.Bool.{true, false}
 use mathlib.Core.List.{List, [], ◌∷◌, ◌++◌, append_assoc, append-nil}
-use mathlib.Core.Option.{none, some}
 use Prim.Native.Nat.{ℕ, ◌+◌, ◌≤◌, ◌<◌}
 use native.Mathlib.Nat.{add-zero}
 use native.Mathlib.Omega.{arith}
-use lib.ListN.{length, take, drop, get_elem?, length-drop}
+use lib.ListN.{length, take, drop, length-drop}
 use lib.Seq.{drop-drop}
 use Rattle.format.specs.Kind as Kind
 use Rattle.format.specs.Code as Code
 use Rattle.format.specs.Limits.{fixed_sizes, max_entries}
-use Rattle.format.specs.Answer.{good}
 use Rattle.format.specs.Header.{Header, header_of}
 use Rattle.format.specs.Item.{Item, is_name}
 use Rattle.format.specs.Reading.{Found, Options, State, Form, content, fixed, reference, form_of, is_content, item, item_of, items_of, after, run}
@@ -25,19 +24,19 @@ use Rattle.format.proofs.Steps.{Passed, item-step, step_forward, Reads, done, mo
 pub record Turn (o : Options) (s : List ℕ) (a u : State) (h : Header) : Type 0 where
   pub next : State
   pub y : Found
-  pub headed : header_of (drop a.at s) ≡ some h
-  pub is : item o a (drop a.at s) ≡ good next
-  pub meant : item_of (form_of h) h.payload (a.at + h.size) (drop (a.at + h.size) s) a.entries ≡ some y
+  pub headed : header_of (drop a.at s) ≡ Some h
+  pub is : item o a (drop a.at s) ≡ Ok next
+  pub meant : item_of (form_of h) h.payload (a.at + h.size) (drop (a.at + h.size) s) a.entries ≡ Some y
   pub passed : Passed o a h (drop (a.at + h.size) s) y.item
   pub goes : next ≡ after a h (form_of h) y
-  pub reads : run o next 0 (drop next.at s) ≡ good u
+  pub reads : run o next 0 (drop next.at s) ≡ Ok u
   pub within : next.at ≤ length s
   -- the items of the whole, up to this one and after it
   pub later : List Item
   pub all : items_of u.found ≡ items_of a.found ++ (y.item ∷ later)
 
 turns : {o : Options} (s : List ℕ) (h : Header) {a u : State} {bs : List ℕ} → Reads o a bs u → bs ≡ drop a.at s
-    → some h ≡ header_of bs → Turn o s a u h
+    → Some h ≡ header_of bs → Turn o s a u h
 unfolding header_of
 turns s h (done d) q e = none-some (sym e)
 turns {o} s h {a} (more {t = t} {u = u} {bs = bs} p v) q e =
@@ -49,7 +48,7 @@ turns {o} s h {a} (more {t = t} {u = u} {bs = bs} p v) q e =
       headed = rw q at (sym e);
       is = rw q at (step-item p);
       meant = subst (λ (g : Header). item_of (form_of g) g.payload (a.at + g.size) (drop (a.at + g.size) s)
-          a.entries ≡ some p.x) k (rw b at p.meant);
+          a.entries ≡ Some p.x) k (rw b at p.meant);
       passed = subst (λ (g : Header). Passed o a g (drop (a.at + g.size) s) p.x.item) k (rw b at p.passed);
       goes = p.next ∙ ap (λ (g : Header). after a g (form_of g) p.x) k;
       reads = rw (step-drop s q p) at (reads-run v);
@@ -59,8 +58,8 @@ turns {o} s h {a} (more {t = t} {u = u} {bs = bs} p v) q e =
           ∙ items_snoc a.found p.x) ∙ append_assoc (items_of a.found) (p.x.item ∷ []) (read_items v);
     }
 
-pub turn : {o : Options} (s : List ℕ) {a u : State} {h : Header} → run o a 0 (drop a.at s) ≡ good u
-    → some h ≡ header_of (drop a.at s) → Turn o s a u h
+pub turn : {o : Options} (s : List ℕ) {a u : State} {h : Header} → run o a 0 (drop a.at s) ≡ Ok u
+    → Some h ≡ header_of (drop a.at s) → Turn o s a u h
 turn s {h = h} r e = turns s h (run-reads _ r) refl e
 
 module _ {o : Options} {s : List ℕ} {a u : State} {h : Header} (w : Turn o s a u h) where
@@ -117,7 +116,7 @@ module _ {o : Options} {s : List ℕ} {a u : State} {h : Header} (w : Turn o s a
   unfolding item_of
   fixed-is e = sym (some_inj (rw e at w.meant))
 
-  pub reference-is : form_of h ≡ reference → get_elem? a.entries h.payload ≡ some w.y
+  pub reference-is : form_of h ≡ reference → slice_get a.entries h.payload ≡ Some w.y
   unfolding item_of
   reference-is e = rw e at w.meant
 
@@ -156,7 +155,7 @@ module _ {o : Options} {s : List ℕ} {a u : State} {h : Header} (w : Turn o s a
 
 -- ---- where bytes are left, and where none are
 
-headed : {o : Options} {a u : State} {bs : List ℕ} → Reads o a bs u → 0 < length bs → (h : Header) × (header_of bs ≡ some h)
+headed : {o : Options} {a u : State} {bs : List ℕ} → Reads o a bs u → 0 < length bs → (h : Header) × (header_of bs ≡ Some h)
 headed (done d) l = absurd (omega arith)
 headed (more p v) l = (p.h, p.headed)
 
@@ -167,9 +166,9 @@ found_front (more {s = a} p v) =
     let (xs, e, _) = found_front v in
     (p.x ∷ xs, e ∙ ap (λ (l : List Found). l ++ xs) (step-found p) ∙ append_assoc a.found (p.x ∷ []) xs, λ _. omega arith)
 
-module _ (o : Options) (s : List ℕ) (a : State) {u : State} (r : run o a 0 (drop a.at s) ≡ good u) where
+module _ (o : Options) (s : List ℕ) (a : State) {u : State} (r : run o a 0 (drop a.at s) ≡ Ok u) where
   -- Where a byte is left there is a whole header.
-  pub never-cut {ℓ} : {X : Type ℓ} → a.at < length s → none ≡ header_of (drop a.at s) → X
+  pub never-cut {ℓ} : {X : Type ℓ} → a.at < length s → None ≡ header_of (drop a.at s) → X
   never-cut l e = let (h, q) = headed (run-reads _ r) (rw length-drop (omega arith)) in none-some (e ∙ q)
 
   -- What was found comes first, and more comes where a byte is left.

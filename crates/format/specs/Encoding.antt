@@ -1,8 +1,6 @@
 -- The encodings of items, by document 01's table: which bytes stand for an item. It says reading again, with no machine:
 -- proofs/Encodings shows that exactly these bytes are read, and as these items.
-use Rattle.std.specs.Prelude.{◌≡◌, ℕ, ◌+◌, ◌-◌, ◌*◌, ◌^◌, ◌≤◌, ◌<◌, min, true, List, [], ◌∷◌, ◌++◌, length}
-use Rattle.std.proofs.Math.Option.{some}
-use Rattle.std.proofs.Math.ListN.{get_elem?}
+use Rattle.std.specs.Prelude.{◌≡◌, ℕ, ◌+◌, ◌-◌, ◌*◌, ◌^◌, ◌≤◌, ◌<◌, min, true, List, [], ◌∷◌, ◌++◌, length, Some, slice_get}
 use Rattle.format.specs.Limits.{max_bytes, max_entries, max_inline, max_rows}
 use Rattle.format.specs.Kind as Kind
 use Rattle.format.specs.Code as Code
@@ -34,7 +32,7 @@ pub data Encodes (es : List Item) : Item → List ℕ → List Item → Type 0 w
   key : {h c : List ℕ} → Heading Code.key (length c) h → utf8 c ≡ true
       → Encodes es (held Kind.key c) (h ++ c) (es ++ (held Kind.key c ∷ []))
   -- a reference is the item of its entry, and makes none
-  reference : {i : ℕ} {x : Item} {h : List ℕ} → Heading Code.reference i h → get_elem? es i ≡ some x → Encodes es x h es
+  reference : {i : ℕ} {x : Item} {h : List ℕ} → Heading Code.reference i h → slice_get es i ≡ Some x → Encodes es x h es
 
 -- Items one after the other, from one table to another.
 pub data EncodesAll : List Item → List Item → List ℕ → List Item → Type 0 where

@@ -1,17 +1,17 @@
 -- Examples of reading: each row marked T of document 01's "Messages to try", each kind of item, each refusal with its
 -- place, and inputs that two rules apply to.
-use Rattle.std.specs.Prelude.{ℕ, ◌^◌, ◌-◌, ◌≡◌, refl, List, [], ◌∷◌, ◌++◌, map, replicate}
+use Rattle.std.specs.Prelude.{ℕ, ◌^◌, ◌-◌, ◌≡◌, refl, List, [], ◌∷◌, ◌++◌, map, replicate, Ok, is_some, is_none, unwrap_or}
 use Rattle.format.specs.declared.row.Row.{Row}
 use Rattle.format.specs.declared.error.Mode.TheVariants.{Lenient, Strict}
 use Rattle.format.specs.declared.error.Error.TheVariants.{InvalidUtf8, NotCanonical, TooDeep, TooLong, TooManyEntries, TooManyRows, Truncated, UndefinedReference, UnexpectedKey}
 use Rattle.format.specs.Choice.{pick}
 use Rattle.format.specs.Limits.{max_bytes}
-use Rattle.format.specs.Answer.{fail, first, good, rule, then, unless}
+use Rattle.format.specs.Answer.{fail, first, rule, then, unless}
 use Rattle.format.specs.Kind as Kind
 use Rattle.format.specs.Header.{big_endian, digits, following, header, header_of, is_long, is_negative_alias, payload_of, shift, width, width_from}
-use Rattle.format.specs.Utf8.{bad_at, is_none, leads, or_zero, stop, stop_after, utf8, within}
+use Rattle.format.specs.Utf8.{bad_at, leads, stop, stop_after, utf8, within}
 use Rattle.format.specs.Item.{Item, held, is_container, is_key, is_name, is_text, plain}
-use Rattle.format.specs.Names.{added, index, index_from, is_some, noted, same, same_name}
+use Rattle.format.specs.Names.{added, index, index_from, noted, same, same_name}
 use Rattle.format.specs.Place.{due, ended, moved, top}
 use Rattle.format.specs.Reading.{State, after, counts, counts_of, ending, form_of, headed, is_content, is_missing, item, item_of, item_rules, items, items_of, lenient, options, or_null, reading, run, start, strict}
 use Rattle.format.specs.Rows.{row_of, rows}
@@ -42,20 +42,20 @@ job_of i j rest = container 2 ∷ key d ∷ integer i ∷ key m ∷ integer j �
 abbrev pub Messages : Type 0
 Messages =
     -- none
-    (items lenient [] ≡ good [])
+    (items lenient [] ≡ Ok [])
     -- 00
-    × (items lenient (0x00 ∷ []) ≡ good (null ∷ []))
+    × (items lenient (0x00 ∷ []) ≡ Ok (null ∷ []))
     -- 37; 38 18
-    × (items lenient (0x37 ∷ []) ≡ good (integer 23 ∷ []))
-    × (items lenient (0x38 ∷ 0x18 ∷ []) ≡ good (integer 24 ∷ []))
+    × (items lenient (0x37 ∷ []) ≡ Ok (integer 23 ∷ []))
+    × (items lenient (0x38 ∷ 0x18 ∷ []) ≡ Ok (integer 24 ∷ []))
     -- 38 17
-    × (items lenient (0x38 ∷ 0x17 ∷ []) ≡ good (integer 23 ∷ []))
+    × (items lenient (0x38 ∷ 0x17 ∷ []) ≡ Ok (integer 23 ∷ []))
     × (items strict (0x38 ∷ 0x17 ∷ []) ≡ fail NotCanonical 0)
     -- 58 FF
-    × (items lenient (0x58 ∷ 0xff ∷ []) ≡ good (negative 255 ∷ []))
+    × (items lenient (0x58 ∷ 0xff ∷ []) ≡ Ok (negative 255 ∷ []))
     -- 5F and eight FF
-    × (items lenient alias ≡ good (negative (2 ^ 64 - 2) ∷ []))
-    × (canonicalizing alias max_bytes ≡ good alias_canonical)
+    × (items lenient alias ≡ Ok (negative (2 ^ 64 - 2) ∷ []))
+    × (canonicalizing alias max_bytes ≡ Ok alias_canonical)
     -- E0
     × (items lenient (0xe0 ∷ []) ≡ fail UndefinedReference 0)
     -- C1 64
@@ -63,11 +63,11 @@ Messages =
     -- C1 64 C1 6D
     × (items lenient (0xc1 ∷ 0x64 ∷ 0xc1 ∷ 0x6d ∷ []) ≡ fail UnexpectedKey 2)
     -- C1 64 A1 64 E0 E1
-    × (items lenient (0xc1 ∷ 0x64 ∷ 0xa1 ∷ 0x64 ∷ 0xe0 ∷ 0xe1 ∷ []) ≡ good (key d ∷ symbol d ∷ key d ∷ symbol d ∷ []))
+    × (items lenient (0xc1 ∷ 0x64 ∷ 0xa1 ∷ 0x64 ∷ 0xe0 ∷ 0xe1 ∷ []) ≡ Ok (key d ∷ symbol d ∷ key d ∷ symbol d ∷ []))
     -- 62 C1 64 25 C1 6D 23 62 C1 64 27 E1 24 62 E0 29 E1 22
-    × (items lenient jobs ≡ good (job_of 5 3 (job_of 7 4 (job_of 9 2 []))))
-    × (counts lenient jobs ≡ good (record { rows = 15; entries = 3; fields = 3 }))
-    × (canonicalizing jobs max_bytes ≡ good jobs_canonical)
+    × (items lenient jobs ≡ Ok (job_of 5 3 (job_of 7 4 (job_of 9 2 []))))
+    × (counts lenient jobs ≡ Ok (record { rows = 15; entries = 3; fields = 3 }))
+    × (canonicalizing jobs max_bytes ≡ Ok jobs_canonical)
 
 -- ---- kinds
 
@@ -102,22 +102,22 @@ all_widths_numbers =
 
 abbrev pub Kinds : Type 0
 Kinds =
-    (items lenient all_kinds ≡ good all_kinds_items)
-    × (counts lenient all_kinds ≡ good (record { rows = 15; entries = 2; fields = 13 }))
-    × (rows lenient all_kinds ≡ good all_kinds_rows)
+    (items lenient all_kinds ≡ Ok all_kinds_items)
+    × (counts lenient all_kinds ≡ Ok (record { rows = 15; entries = 2; fields = 13 }))
+    × (rows lenient all_kinds ≡ Ok all_kinds_rows)
     -- these bytes are canonical
-    × (items strict all_kinds ≡ good all_kinds_items)
-    × (canonicalizing all_kinds max_bytes ≡ good all_kinds)
-    × (items lenient all_widths ≡ good (map integer all_widths_numbers))
+    × (items strict all_kinds ≡ Ok all_kinds_items)
+    × (canonicalizing all_kinds max_bytes ≡ Ok all_kinds)
+    × (items lenient all_widths ≡ Ok (map integer all_widths_numbers))
     -- a float's header is never long; the largest integer is no alias
-    × (items strict (0x03 ∷ replicate 4 0x00) ≡ good (plain Kind.float32 0 ∷ []))
-    × (items strict (0x3f ∷ replicate 8 0xff) ≡ good (integer (2 ^ 64 - 1) ∷ []))
+    × (items strict (0x03 ∷ replicate 4 0x00) ≡ Ok (plain Kind.float32 0 ∷ []))
+    × (items strict (0x3f ∷ replicate 8 0xff) ≡ Ok (integer (2 ^ 64 - 1) ∷ []))
     -- bytes: 18 in the lead byte, 19 in one byte, in two
-    × (items strict (0x17 ∷ replicate 18 0xff) ≡ good (held Kind.bytes (replicate 18 0xff) ∷ []))
-    × (items strict (0x18 ∷ 0x13 ∷ replicate 19 0xff) ≡ good (held Kind.bytes (replicate 19 0xff) ∷ []))
-    × (items lenient (0x19 ∷ 0x00 ∷ 0x13 ∷ replicate 19 0xff) ≡ good (held Kind.bytes (replicate 19 0xff) ∷ []))
+    × (items strict (0x17 ∷ replicate 18 0xff) ≡ Ok (held Kind.bytes (replicate 18 0xff) ∷ []))
+    × (items strict (0x18 ∷ 0x13 ∷ replicate 19 0xff) ≡ Ok (held Kind.bytes (replicate 19 0xff) ∷ []))
+    × (items lenient (0x19 ∷ 0x00 ∷ 0x13 ∷ replicate 19 0xff) ≡ Ok (held Kind.bytes (replicate 19 0xff) ∷ []))
     -- a string of 24
-    × (items strict (0x98 ∷ 0x18 ∷ replicate 24 0x64) ≡ good (held Kind.string (replicate 24 0x64) ∷ []))
+    × (items strict (0x98 ∷ 0x18 ∷ replicate 24 0x64) ≡ Ok (held Kind.string (replicate 24 0x64) ∷ []))
 
 -- ---- refusals
 
@@ -146,32 +146,32 @@ Refusals =
     -- after the content where that ends too early, whatever comes next
     × (items lenient (0x00 ∷ 0x82 ∷ 0x61 ∷ 0xc3 ∷ 0x00 ∷ []) ≡ fail InvalidUtf8 4)
     × (items strict (0x82 ∷ 0xe0 ∷ 0x80 ∷ 0x80 ∷ []) ≡ fail InvalidUtf8 3)
-    × (items lenient (ahead (0x06 ∷ 0xff ∷ [])) ≡ good (integer 24 ∷ integer 24 ∷ held Kind.bytes (0xff ∷ []) ∷ []))
+    × (items lenient (ahead (0x06 ∷ 0xff ∷ [])) ≡ Ok (integer 24 ∷ integer 24 ∷ held Kind.bytes (0xff ∷ []) ∷ []))
     -- 4: one entry is made, and it is the entry 0
     × (items lenient (ahead (0xa1 ∷ 0x64 ∷ 0xe1 ∷ [])) ≡ fail UndefinedReference 6)
-    × (items lenient (ahead (0xa1 ∷ 0x64 ∷ 0xe0 ∷ [])) ≡ good (integer 24 ∷ integer 24 ∷ symbol d ∷ symbol d ∷ []))
+    × (items lenient (ahead (0xa1 ∷ 0x64 ∷ 0xe0 ∷ [])) ≡ Ok (integer 24 ∷ integer 24 ∷ symbol d ∷ symbol d ∷ []))
     -- 5: a key after a key, in full and by reference
     × (items lenient (ahead (0xc1 ∷ 0x64 ∷ 0xc1 ∷ 0x6d ∷ [])) ≡ fail UnexpectedKey 6)
     × (items lenient (ahead (0xc1 ∷ 0x64 ∷ 0xe0 ∷ [])) ≡ fail UnexpectedKey 6)
     -- 6: a container inside 32, an empty one too; null inside 32
     × (items lenient (ahead (replicate 33 0x61)) ≡ fail TooDeep 36)
     × (items lenient (ahead (replicate 32 0x61 ++ (0x60 ∷ []))) ≡ fail TooDeep 36)
-    × (counts lenient (ahead (replicate 32 0x61 ++ (0x00 ∷ []))) ≡ good (record { rows = 35; entries = 0; fields = 3 }))
+    × (counts lenient (ahead (replicate 32 0x61 ++ (0x00 ∷ []))) ≡ Ok (record { rows = 35; entries = 0; fields = 3 }))
     -- 7: over the table's rows; 1,024 is the most by `reading_law.within`
     × (items (options Lenient 3) (ahead (0x00 ∷ 0x00 ∷ [])) ≡ fail TooManyRows 5)
-    × (items (options Lenient 3) (ahead (0x00 ∷ [])) ≡ good (integer 24 ∷ integer 24 ∷ null ∷ []))
+    × (items (options Lenient 3) (ahead (0x00 ∷ [])) ≡ Ok (integer 24 ∷ integer 24 ∷ null ∷ []))
     -- 8: a 257th entry, also of a name that has one; a reference makes none
     × (items lenient (ahead (names ++ (0xa0 ∷ []))) ≡ fail TooManyEntries 516)
     × (items lenient (ahead (names ++ (0xa1 ∷ 0x00 ∷ []))) ≡ fail TooManyEntries 516)
-    × (counts lenient (names ++ (0xe1 ∷ [])) ≡ good (record { rows = 257; entries = 256; fields = 129 }))
+    × (counts lenient (names ++ (0xe1 ∷ [])) ≡ Ok (record { rows = 257; entries = 256; fields = 129 }))
     -- 11: a long header, the alias of the least integer, a name in full again
     × (items strict (ahead (0x38 ∷ 0x17 ∷ [])) ≡ fail NotCanonical 4)
     × (items strict (ahead (0x39 ∷ 0x00 ∷ 0xff ∷ [])) ≡ fail NotCanonical 4)
     × (items strict (ahead (0x18 ∷ 0x12 ∷ replicate 18 0xff)) ≡ fail NotCanonical 4)
     × (items strict (ahead alias) ≡ fail NotCanonical 4)
-    × (items strict (ahead alias_canonical) ≡ good (integer 24 ∷ integer 24 ∷ negative (2 ^ 64 - 2) ∷ []))
+    × (items strict (ahead alias_canonical) ≡ Ok (integer 24 ∷ integer 24 ∷ negative (2 ^ 64 - 2) ∷ []))
     × (items strict (ahead (0xa1 ∷ 0x64 ∷ 0xa1 ∷ 0x64 ∷ [])) ≡ fail NotCanonical 6)
-    × (items strict (ahead (0xc1 ∷ 0x64 ∷ 0xa1 ∷ 0x64 ∷ [])) ≡ good (integer 24 ∷ integer 24 ∷ key d ∷ symbol d ∷ []))
+    × (items strict (ahead (0xc1 ∷ 0x64 ∷ 0xa1 ∷ 0x64 ∷ [])) ≡ Ok (integer 24 ∷ integer 24 ∷ key d ∷ symbol d ∷ []))
 
 -- ---- the order of the rules
 
@@ -225,8 +225,8 @@ ReadingExamples = Messages × Kinds × Refusals × Orders
 
 pub reading_examples : ReadingExamples
 unfolding pick rule first fail unless then big_endian digits shift following payload_of header_of width_from width header
-    is_long is_negative_alias within leads stop_after stop is_none utf8 or_zero bad_at is_text is_name is_key is_container same same_name index_from index
-    is_some added noted top ended moved due items_of start form_of is_content item_of is_missing or_null item_rules after headed
+    is_long is_negative_alias within leads stop_after stop utf8 bad_at is_text is_name is_key is_container same same_name index_from index
+    added noted top ended moved due items_of start form_of is_content item_of is_missing or_null item_rules after headed
     item ending run reading items counts_of counts row_of rows full named encoded canonical_from canonical fitted canonicalizing
 reading_examples = (
   (refl, refl, refl, refl, refl, refl, refl, refl, refl, refl, refl, refl, refl, refl, refl, refl),

@@ -1,8 +1,7 @@
 -- Examples of UTF-8: every lead byte, every continuation byte at each position, and what the condensed rule takes.
-use Rattle.std.specs.Prelude.{ℕ, suc, ◌-◌, ◌≡◌, refl, true, false, List, [], ◌∷◌, map, replicate}
-use Rattle.std.proofs.Math.Option.{Option, none, some}
+use Rattle.std.specs.Prelude.{ℕ, suc, ◌-◌, ◌≡◌, refl, true, false, List, [], ◌∷◌, map, replicate, Option, None, Some, is_none}
 use Rattle.format.specs.Choice.{pick}
-use Rattle.format.specs.Utf8.{is_none, leads, stop, stop_after, utf8, within}
+use Rattle.format.specs.Utf8.{leads, stop, stop_after, utf8, within}
 use Rattle.format.specs.Samples.{upward}
 
 -- The places of each byte from lo to hi are the same.
@@ -16,12 +15,12 @@ leading b = map (λ (k : ℕ). stop (b ∷ replicate k 0x80)) (0 ∷ 1 ∷ 2 ∷
 -- Document 01's list: a text ends too early with fewer bytes than the lead byte asks for, and stops after them with more.
 abbrev Leads : Type 0
 Leads =
-    Each 0x00 0x7f leading (none ∷ some 1 ∷ some 1 ∷ some 1 ∷ some 1 ∷ [])
-    × Each 0x80 0xc1 leading (replicate 5 (some 0))
-    × Each 0xc2 0xdf leading (some 1 ∷ none ∷ some 2 ∷ some 2 ∷ some 2 ∷ [])
-    × Each 0xe0 0xef leading (some 1 ∷ some 2 ∷ none ∷ some 3 ∷ some 3 ∷ [])
-    × Each 0xf0 0xf4 leading (some 1 ∷ some 2 ∷ some 3 ∷ none ∷ some 4 ∷ [])
-    × Each 0xf5 0xff leading (replicate 5 (some 0))
+    Each 0x00 0x7f leading (None ∷ Some 1 ∷ Some 1 ∷ Some 1 ∷ Some 1 ∷ [])
+    × Each 0x80 0xc1 leading (replicate 5 (Some 0))
+    × Each 0xc2 0xdf leading (Some 1 ∷ None ∷ Some 2 ∷ Some 2 ∷ Some 2 ∷ [])
+    × Each 0xe0 0xef leading (Some 1 ∷ Some 2 ∷ None ∷ Some 3 ∷ Some 3 ∷ [])
+    × Each 0xf0 0xf4 leading (Some 1 ∷ Some 2 ∷ Some 3 ∷ None ∷ Some 4 ∷ [])
+    × Each 0xf5 0xff leading (replicate 5 (Some 0))
 
 -- A byte after the lead byte, at each position.
 abbrev continuing : ℕ → List (Option ℕ)
@@ -36,39 +35,39 @@ continuing b =
     ∷ [])
 
 abbrev at_the_byte : List (Option ℕ)
-at_the_byte = map some (1 ∷ 1 ∷ 2 ∷ 1 ∷ 2 ∷ 3 ∷ [])
+at_the_byte = map Some (1 ∷ 1 ∷ 2 ∷ 1 ∷ 2 ∷ 3 ∷ [])
 
 abbrev Continuations : Type 0
 Continuations =
     Each 0x00 0x7f continuing at_the_byte
-    × Each 0x80 0xbf continuing (replicate 6 none)
+    × Each 0x80 0xbf continuing (replicate 6 None)
     × Each 0xc0 0xff continuing at_the_byte
 
 abbrev Texts : Type 0
 Texts =
-    (stop [] ≡ none)
+    (stop [] ≡ None)
     × (utf8 [] ≡ true)
     -- characters of each length, one after the other; the last one cut
-    × (stop (0x64 ∷ 0xc2 ∷ 0x80 ∷ 0xe0 ∷ 0xa0 ∷ 0x80 ∷ 0xf0 ∷ 0x90 ∷ 0x80 ∷ 0x80 ∷ 0x6d ∷ []) ≡ none)
-    × (stop (0x64 ∷ 0xc2 ∷ 0x80 ∷ 0xe0 ∷ 0xa0 ∷ 0x80 ∷ 0xf0 ∷ 0x90 ∷ 0x80 ∷ []) ≡ some 9)
+    × (stop (0x64 ∷ 0xc2 ∷ 0x80 ∷ 0xe0 ∷ 0xa0 ∷ 0x80 ∷ 0xf0 ∷ 0x90 ∷ 0x80 ∷ 0x80 ∷ 0x6d ∷ []) ≡ None)
+    × (stop (0x64 ∷ 0xc2 ∷ 0x80 ∷ 0xe0 ∷ 0xa0 ∷ 0x80 ∷ 0xf0 ∷ 0x90 ∷ 0x80 ∷ []) ≡ Some 9)
     × (utf8 (0x64 ∷ 0xc2 ∷ 0x80 ∷ 0xe0 ∷ 0xa0 ∷ 0x80 ∷ 0xf0 ∷ 0x90 ∷ 0x80 ∷ []) ≡ false)
     -- a character that ends early, and another after it: the first byte that is wrong, though more are missing
-    × (stop (0xc2 ∷ 0x64 ∷ []) ≡ some 1)
-    × (stop (0xe0 ∷ 0x41 ∷ []) ≡ some 1)
-    × (stop (0xe0 ∷ 0xa0 ∷ 0xc2 ∷ 0x80 ∷ []) ≡ some 2)
+    × (stop (0xc2 ∷ 0x64 ∷ []) ≡ Some 1)
+    × (stop (0xe0 ∷ 0x41 ∷ []) ≡ Some 1)
+    × (stop (0xe0 ∷ 0xa0 ∷ 0xc2 ∷ 0x80 ∷ []) ≡ Some 2)
     -- a text that ends too early
-    × (stop (0x61 ∷ 0xc3 ∷ []) ≡ some 2)
-    × (stop (0xe0 ∷ 0x80 ∷ []) ≡ some 2)
+    × (stop (0x61 ∷ 0xc3 ∷ []) ≡ Some 2)
+    × (stop (0xe0 ∷ 0x80 ∷ []) ≡ Some 2)
     -- a long form, a surrogate, a number over 10FFFF: the condensed rule takes them
-    × (stop (0xe0 ∷ 0x80 ∷ 0x80 ∷ []) ≡ none)
-    × (stop (0xed ∷ 0xa0 ∷ 0x80 ∷ []) ≡ none)
-    × (stop (0xf4 ∷ 0xbf ∷ 0xbf ∷ 0xbf ∷ []) ≡ none)
+    × (stop (0xe0 ∷ 0x80 ∷ 0x80 ∷ []) ≡ None)
+    × (stop (0xed ∷ 0xa0 ∷ 0x80 ∷ []) ≡ None)
+    × (stop (0xf4 ∷ 0xbf ∷ 0xbf ∷ 0xbf ∷ []) ≡ None)
 
 abbrev pub Utf8Examples : Type 0
 Utf8Examples = Leads × Continuations × Texts
 
 pub utf8_examples : Utf8Examples
-unfolding pick within leads stop_after stop is_none utf8
+unfolding pick within leads stop_after stop utf8
 utf8_examples = (
   (refl, refl, refl, refl, refl, refl),
   (refl, refl, refl),

@@ -1,14 +1,14 @@
 -- Examples of writing: what is written, each refusal with its row, and rows that two rules apply to.
-use Rattle.std.specs.Prelude.{ℕ, ◌^◌, ◌-◌, ◌≡◌, refl, List, [], ◌∷◌, ◌++◌, replicate}
+use Rattle.std.specs.Prelude.{ℕ, ◌^◌, ◌-◌, ◌≡◌, refl, List, [], ◌∷◌, ◌++◌, replicate, Err, Ok, is_some, is_none, unwrap_or}
 use Rattle.format.specs.declared.row.Row.{Row}
 use Rattle.format.specs.declared.error.Error.TheVariants.{InvalidRow, InvalidUtf8, OutputTooLong, TooDeep, TooLong, TooManyEntries, TooManyRows, Truncated, UnexpectedKey}
 use Rattle.format.specs.Choice.{pick}
-use Rattle.format.specs.Answer.{Answer, counted, fail, failed, failure_beside, first, good, rule, then, unless}
+use Rattle.format.specs.Answer.{Answer, counted, fail, failure_beside, first, rule, then, unless}
 use Rattle.format.specs.Kind as Kind
 use Rattle.format.specs.Header.{digits, following, header, shift, width, width_from}
-use Rattle.format.specs.Utf8.{bad_at, is_none, leads, or_zero, stop, stop_after, utf8, within}
+use Rattle.format.specs.Utf8.{bad_at, leads, stop, stop_after, utf8, within}
 use Rattle.format.specs.Item.{has_content, is_container, is_key, is_name, is_text}
-use Rattle.format.specs.Names.{added, index, index_from, is_some, noted, same, same_name}
+use Rattle.format.specs.Names.{added, index, index_from, noted, same, same_name}
 use Rattle.format.specs.Place.{due, ended, moved, top}
 use Rattle.format.specs.Rows.{content_of, item_at}
 use Rattle.format.specs.Canonical.{canonical, canonical_from, encoded, full, named}
@@ -36,7 +36,7 @@ symbol start = row Kind.symbol 1 start
 
 -- 3, at an offset in the text, and the row beside
 abbrev bad_text : {A : Type 0} → ℕ → ℕ → Answer A
-bad_text offset row = failed (failure_beside InvalidUtf8 offset row)
+bad_text offset row = Err (failure_beside InvalidUtf8 offset row)
 
 -- rows after six others
 abbrev ahead : List Row → List Row
@@ -55,20 +55,20 @@ all_names = record { row = 7; place = top; names = names_items; items = [] }
 
 abbrev pub Results : Type 0
 Results =
-    (writing [] [] 0 ≡ good [])
-    × (writing (container 2 ∷ key 0 ∷ row Kind.positive 5 0 ∷ key 1 ∷ row Kind.positive 3 0 ∷ []) text 7 ≡ good job)
+    (writing [] [] 0 ≡ Ok [])
+    × (writing (container 2 ∷ key 0 ∷ row Kind.positive 5 0 ∷ key 1 ∷ row Kind.positive 3 0 ∷ []) text 7 ≡ Ok job)
     -- each kind, with the largest number where it has one
-    × (writing (null ∷ row Kind.true 0 0 ∷ row Kind.false 0 0 ∷ []) text 3 ≡ good (0x00 ∷ 0x01 ∷ 0x02 ∷ []))
-    × (writing (row Kind.float32 (2 ^ 32 - 1) 0 ∷ []) text 5 ≡ good (0x03 ∷ replicate 4 0xff))
-    × (writing (row Kind.float64 (2 ^ 64 - 1) 0 ∷ []) text 9 ≡ good (0x04 ∷ replicate 8 0xff))
-    × (writing (row Kind.bytes 3 0 ∷ []) text 4 ≡ good (0x08 ∷ text))
-    × (writing (row Kind.positive (2 ^ 64 - 1) 0 ∷ []) text 9 ≡ good (0x3f ∷ replicate 8 0xff))
-    × (writing (row Kind.negative (2 ^ 64 - 2) 0 ∷ []) text 9 ≡ good (0x5f ∷ replicate 7 0xff ++ (0xfe ∷ [])))
-    × (writing (container 0 ∷ row Kind.string 2 0 ∷ []) text 4 ≡ good (0x60 ∷ 0x82 ∷ 0x64 ∷ 0x6d ∷ []))
+    × (writing (null ∷ row Kind.true 0 0 ∷ row Kind.false 0 0 ∷ []) text 3 ≡ Ok (0x00 ∷ 0x01 ∷ 0x02 ∷ []))
+    × (writing (row Kind.float32 (2 ^ 32 - 1) 0 ∷ []) text 5 ≡ Ok (0x03 ∷ replicate 4 0xff))
+    × (writing (row Kind.float64 (2 ^ 64 - 1) 0 ∷ []) text 9 ≡ Ok (0x04 ∷ replicate 8 0xff))
+    × (writing (row Kind.bytes 3 0 ∷ []) text 4 ≡ Ok (0x08 ∷ text))
+    × (writing (row Kind.positive (2 ^ 64 - 1) 0 ∷ []) text 9 ≡ Ok (0x3f ∷ replicate 8 0xff))
+    × (writing (row Kind.negative (2 ^ 64 - 2) 0 ∷ []) text 9 ≡ Ok (0x5f ∷ replicate 7 0xff ++ (0xfe ∷ [])))
+    × (writing (container 0 ∷ row Kind.string 2 0 ∷ []) text 4 ≡ Ok (0x60 ∷ 0x82 ∷ 0x64 ∷ 0x6d ∷ []))
     -- key d and symbol d are two names; each is written in full once
-    × (writing (key 0 ∷ symbol 0 ∷ key 0 ∷ symbol 0 ∷ []) text 6 ≡ good (0xc1 ∷ 0x64 ∷ 0xa1 ∷ 0x64 ∷ 0xe0 ∷ 0xe1 ∷ []))
+    × (writing (key 0 ∷ symbol 0 ∷ key 0 ∷ symbol 0 ∷ []) text 6 ≡ Ok (0xc1 ∷ 0x64 ∷ 0xa1 ∷ 0x64 ∷ 0xe0 ∷ 0xe1 ∷ []))
     -- content may end where the text ends, empty content too
-    × (writing (row Kind.bytes 1 2 ∷ row Kind.string 0 3 ∷ []) text 3 ≡ good (0x06 ∷ 0xff ∷ 0x80 ∷ []))
+    × (writing (row Kind.bytes 1 2 ∷ row Kind.string 0 3 ∷ []) text 3 ≡ Ok (0x06 ∷ 0xff ∷ 0x80 ∷ []))
 
 -- ---- refusals
 
@@ -79,7 +79,7 @@ Refusals =
     (writing (replicate 1025 (row 12 0 0)) text 9 ≡ fail TooManyRows 0)
     × (writing (replicate 1024 (row 12 0 0)) text 9 ≡ fail InvalidRow 0)
     × (writing [] (replicate 16385 0x00) 9 ≡ fail TooLong 0)
-    × (writing [] (replicate 16384 0x00) 9 ≡ good [])
+    × (writing [] (replicate 16384 0x00) 9 ≡ Ok [])
     -- 9, clause by clause: the kind
     × (writing (ahead (row 12 0 0 ∷ [])) text 9 ≡ fail InvalidRow 6)
     -- a number
@@ -107,7 +107,7 @@ Refusals =
     -- 6: a container inside 32, an empty one too; null inside 32
     × (writing (ahead (replicate 33 (container 1))) text 9 ≡ fail TooDeep 38)
     × (writing (ahead (replicate 32 (container 1) ++ (container 0 ∷ []))) text 99 ≡ fail TooDeep 38)
-    × (writing (replicate 32 (container 1) ++ (null ∷ [])) text 33 ≡ good (replicate 32 0x61 ++ (0x00 ∷ [])))
+    × (writing (replicate 32 (container 1) ++ (null ∷ [])) text 33 ≡ Ok (replicate 32 0x61 ++ (0x00 ∷ [])))
     -- 3: a string, a symbol, a key, at the offset in the text, with the row beside
     × (writing (ahead (row Kind.string 2 1 ∷ [])) text 9 ≡ bad_text 2 6)
     × (writing (ahead (symbol 2 ∷ [])) text 9 ≡ bad_text 2 6)
@@ -124,9 +124,9 @@ Refusals =
     × (writing (ahead (key 0 ∷ [])) text 9 ≡ fail Truncated 7)
     -- 10: a byte more than the capacity, or than 16,384
     × (writing (ahead (null ∷ [])) text 6 ≡ fail OutputTooLong 0)
-    × (writing (ahead (null ∷ [])) text 7 ≡ good (replicate 7 0x00))
+    × (writing (ahead (null ∷ [])) text 7 ≡ Ok (replicate 7 0x00))
     × (fitted 20000 (replicate 16385 0x00) ≡ fail OutputTooLong 0)
-    × (counted (fitted 20000 (replicate 16384 0x00)) ≡ good 16384)
+    × (counted (fitted 20000 (replicate 16384 0x00)) ≡ Ok 16384)
 
 -- ---- the order of the rules
 
@@ -156,7 +156,7 @@ WritingExamples = Results × Refusals × Orders
 
 pub writing_examples : WritingExamples
 unfolding pick rule first fail unless then counted digits shift following width_from width header within leads
-    stop_after stop is_none utf8 or_zero bad_at has_content is_text is_name is_key is_container same same_name index_from index is_some added noted top ended moved due
+    stop_after stop utf8 bad_at has_content is_text is_name is_key is_container same same_name index_from index added noted top ended moved due
     full named encoded canonical_from canonical fitted content_of item_at is_bad begin with_item row_rules judge writing
 writing_examples = (
   (refl, refl, refl, refl, refl, refl, refl, refl, refl, refl, refl),

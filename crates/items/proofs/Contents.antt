@@ -1,9 +1,9 @@
 -- Items whose content follows (bytes, strings, names): what each answer means. Assumes nothing.
+use Rattle.std.specs.Prelude.{Some, is_some}
 use mathlib.Core.Path.{◌≡◌, refl, ap, sym, subst, ◌∙◌}
 use mathlib.Core.Logic.{◌≢◌}
 use mathlib.Core.Bool.{Bool, true, false, not, ◌&&◌, and-true, and-false}
 use mathlib.Core.List.{List, [], ◌∷◌, ◌++◌}
-use mathlib.Core.Option.{some}
 use Prim.Native.Nat.{ℕ, ◌+◌, ◌-◌, ◌≤◌, ◌<◌}
 use native.Mathlib.Omega.{arith}
 use lib.Dec.{leb, ltb, eqb}
@@ -16,7 +16,7 @@ use Rattle.format.specs.Limits.{max_entries}
 use Rattle.format.specs.Answer.{fail}
 use Rattle.format.specs.Utf8.{utf8}
 use Rattle.format.specs.Item.{is_key, is_name, is_text}
-use Rattle.format.specs.Names.{index, is_some}
+use Rattle.format.specs.Names.{index}
 use Rattle.format.specs.Place.{Place, key_after_key, is_too_deep, moved}
 use Rattle.format.specs.Reading.{Options, State, Found, content, form_of, is_content, item_of, items_of, after, headed}
 use Rattle.format.proofs.Tests.{cases, clash, equal, leb_yes, leb_no, ltb_yes, ltb_no, eqb_yes, eqb_no, and_no_left, and_no_right, pick_yes, pick_no}
@@ -61,14 +61,14 @@ module _ {s es : List ℕ} {at names keyed next : ℕ} {h : Header} {o : Options
   rest-is : drop h.size (drop at s) ≡ drop next s
   rest-is = drop-drop h.size at s ∙ ap (λ (n : ℕ). drop n s) (sym cs.size)
 
-  at_later : headed o a (some h) (drop at s) ≡ later o a h (content k) (drop next s) x.item (after a h (content k) x)
+  at_later : headed o a (Some h) (drop at s) ≡ later o a h (content k) (drop next s) x.item (after a h (content k) x)
   unfolding item_of
   at_later =
       let e : a.at + h.size ≡ next = omega (arith, cs.stands.offset, cs.size) in
       to_later o a h (drop at s) (content k) ef cs.short x
-      (rw (rest-is, e) (ap (λ (n : ℕ). some (part_of s k next n)) (sym ep))) ∙ rw rest-is
+      (rw (rest-is, e) (ap (λ (n : ℕ). Some (part_of s k next n)) (sym ep))) ∙ rw rest-is
 
-  pub content-again : eqb keyed 1 && is_key x.item ≡ true → headed o a (some h) (drop at s) ≡ fail UnexpectedKey a.at
+  pub content-again : eqb keyed 1 && is_key x.item ≡ true → headed o a (Some h) (drop at s) ≡ fail UnexpectedKey a.at
   content-again e = at_later ∙ pick_yes _ _ (rw cs.stands.key e)
 
   module _ (key : eqb keyed 1 && is_key x.item ≡ false) where
@@ -78,7 +78,7 @@ module _ {s es : List ℕ} {at names keyed next : ℕ} {h : Header} {o : Options
     not_box : is_too_deep a.place x.item ≡ false
     not_box = and_no_left _ (not-container x.item plain)
 
-    pub content-cut : length s - next < p → headed o a (some h) (drop at s) ≡ fail Truncated a.at
+    pub content-cut : length s - next < p → headed o a (Some h) (drop at s) ≡ fail Truncated a.at
     unfolding is_content
     content-cut l =
         let g : length (drop next s) < h.payload = omega (arith, length-drop next s) in
@@ -89,7 +89,7 @@ module _ {s es : List ℕ} {at names keyed next : ℕ} {h : Header} {o : Options
       uncut = let g : h.payload ≤ length (drop next s) = omega (arith, length-drop next s) in ltb_no g
 
       pub content-text : is_text x.item && not (utf8 x.item.content) ≡ true
-          → Judged o s es names a (headed o a (some h) (drop at s)) (out.BadText next (next + p))
+          → Judged o s es names a (headed o a (Some h) (drop at s)) (out.BadText next (next + p))
       unfolding is_content stop_in
       content-text e =
           let n : a.at + h.size ≡ next = omega (arith, cs.stands.offset, cs.size) in
@@ -97,7 +97,7 @@ module _ {s es : List ℕ} {at names keyed next : ℕ} {h : Header} {o : Options
           ∙ rw (n, part_size next p)
 
       module _ (text : is_text x.item && not (utf8 x.item.content) ≡ false) where
-        at_rest : headed o a (some h) (drop at s)
+        at_rest : headed o a (Some h) (drop at s)
             ≡ pick (o.strict && (is_content (content k) && is_name x.item)
             && is_some (index x.item (items_of a.entries))) (fail NotCanonical a.at)
             (pick (is_content (content k) && is_name x.item && leb max_entries (length a.entries)) (fail TooManyEntries a.at)
@@ -118,7 +118,7 @@ module _ {s es : List ℕ} {at names keyed next : ℕ} {h : Header} {o : Options
             }
 
         -- bytes and strings
-        pub content-value : k < 10 → Judged o s es names a (headed o a (some h) (drop at s)) (out.Value (next + p))
+        pub content-value : k < 10 → Judged o s es names a (headed o a (Some h) (drop at s)) (out.Value (next + p))
         unfolding after is_content pick
         content-value low =
             let no_name : is_name x.item ≡ false = not-name x.item low in
@@ -137,12 +137,12 @@ module _ {s es : List ℕ} {at names keyed next : ℕ} {h : Header} {o : Options
           a_name : is_name x.item ≡ true
           a_name = is_name_lem x.item high
 
-          pub name-known : o.strict && is_known s es names x ≡ true → headed o a (some h) (drop at s) ≡ fail NotCanonical a.at
+          pub name-known : o.strict && is_known s es names x ≡ true → headed o a (Some h) (drop at s) ≡ fail NotCanonical a.at
           unfolding is_content
           name-known e = at_rest ∙ pick_yes _ _ (rw (a_name, and-true, cs.stands.entries) e)
 
           module _ (fresh : o.strict && is_known s es names x ≡ false) (size : length es ≡ 256) (few : names ≤ 256) where
-            at_entry : headed o a (some h) (drop at s) ≡ pick (is_content (content k) && is_name x.item
+            at_entry : headed o a (Some h) (drop at s) ≡ pick (is_content (content k) && is_name x.item
                 && leb max_entries (length a.entries)) (fail TooManyEntries a.at) (rowed o a (after a h (content k) x))
             unfolding is_content
             at_entry = at_rest ∙ pick_no _ _ (rw (a_name, and-true, cs.stands.entries) fresh)
@@ -150,13 +150,13 @@ module _ {s es : List ℕ} {at names keyed next : ℕ} {h : Header} {o : Options
             entries-length : length a.entries ≡ names
             entries-length = rw cs.stands.entries (length-entries s es names size few)
 
-            pub name-full : max_entries ≤ names → headed o a (some h) (drop at s) ≡ fail TooManyEntries a.at
+            pub name-full : max_entries ≤ names → headed o a (Some h) (drop at s) ≡ fail TooManyEntries a.at
             unfolding is_content
             name-full l = at_entry ∙ pick_yes _ _ (rw (a_name, entries-length) (leb_yes l))
 
             pub name_goes : names < max_entries → (es' : List ℕ) → entries_of s es' (names + 1) ≡ entries_of s es names ++ (x ∷ [])
                 → (b : ℕ) (q : Place) → moved a.place x.item ≡ q → q.keyed ≡ eqb b 1
-                → Goes o s es' (next + p) (names + 1) b q a (headed o a (some h) (drop at s))
+                → Goes o s es' (next + p) (names + 1) b q a (headed o a (Some h) (drop at s))
             unfolding after is_content
             name_goes l es' em b q mv kb =
                 record {
@@ -170,7 +170,7 @@ module _ {s es : List ℕ} {at names keyed next : ℕ} {h : Header} {o : Options
 
             -- A key opens its field, a symbol ends it.
             pub name-fresh : names < max_entries → (es' : List ℕ) → entries_of s es' (names + 1) ≡ entries_of s es names ++ (x ∷ [])
-                → Judged o s es' names a (headed o a (some h) (drop at s)) (fresh_of k (next + p))
+                → Judged o s es' names a (headed o a (Some h) (drop at s)) (fresh_of k (next + p))
             unfolding fresh_of pick
             name-fresh l es' em =
                 equal k 11
@@ -230,7 +230,7 @@ pub name_judged : {strict : Bool} {s es es' links' : List ℕ} {at names keyed n
     → (cs : Case s es at names keyed next h o a) (p : ℕ) → p ≡ h.payload → length es ≡ 256 → names ≤ 256 → eqb keyed 1
     && eqb (h.code + 5) 11 ≡ false → p ≤ length s - next
     → is_text (part_of s (h.code + 5) next p).item && not (utf8 (part_of s (h.code + 5) next p).item.content) ≡ false
-    → Entered strict s es es' links' names (h.code + 5) next (next + p) r → Judged o s es' names a (headed o a (some h) (drop at s)) r
+    → Entered strict s es es' links' names (h.code + 5) next (next + p) r → Judged o s es' names a (headed o a (Some h) (drop at s)) r
 unfolding is_key
 name_judged {strict} {s} {es} {es'} {links'} {at} {names} {keyed} {next} {h} {o} {a} {r} b so cs p ep size few key whole text t = go t
   where
@@ -241,12 +241,12 @@ name_judged {strict} {s} {es} {es'} {links'} {at} {names} {keyed} {next} {h} {o}
     high : 10 ≤ h.code + 5
     high = omega (arith, b.high)
 
-    go : Entered strict s es es' links' names (h.code + 5) next (next + p) r → Judged o s es' names a (headed o a (some h) (drop at s)) r
-    go (known z q) = subst (λ (v : Out). Judged o s es' names a (headed o a (some h) (drop at s)) v) (sym q)
+    go : Entered strict s es es' links' names (h.code + 5) next (next + p) r → Judged o s es' names a (headed o a (Some h) (drop at s)) r
+    go (known z q) = subst (λ (v : Out). Judged o s es' names a (headed o a (Some h) (drop at s)) v) (sym q)
         (name-known cs p ep (h.code + 5) b.form (name-plain b) key whole text high (strictly true z))
-    go (full z m q) = subst (λ (v : Out). Judged o s es' names a (headed o a (some h) (drop at s)) v) (sym q)
+    go (full z m q) = subst (λ (v : Out). Judged o s es' names a (headed o a (Some h) (drop at s)) v) (sym q)
         (name-full cs p ep (h.code + 5) b.form (name-plain b) key whole text high (strictly false z) size few m)
     go (entered z m q em f) =
-        subst (λ (v : Out). Judged o s es' names a (headed o a (some h) (drop at s)) v) (sym q)
+        subst (λ (v : Out). Judged o s es' names a (headed o a (Some h) (drop at s)) v) (sym q)
         (name-fresh cs p ep (h.code + 5) b.form (name-plain b) key whole text high (strictly false z) size few m es'
         (rw (part_size next p) at em))

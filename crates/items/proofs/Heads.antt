@@ -1,8 +1,8 @@
 -- A header that stands in the bytes: its bounds, and which code is left over. Assumes nothing.
+use Rattle.std.specs.Prelude.{Some}
 use mathlib.Core.Path.{◌≡◌, refl, sym, subst}
 use mathlib.Core.Bool.{Bool, false, ◌&&◌, ◌||◌, and-false}
 use mathlib.Core.List.{List}
-use mathlib.Core.Option.{some}
 use Prim.Native.Nat.{ℕ, ◌+◌, ◌-◌, ◌^◌, ◌≤◌, ◌<◌}
 use native.Mathlib.Omega.{arith}
 use lib.ListN.{length, drop, get_or, length-drop}
@@ -26,7 +26,7 @@ pub record Standing (s : List ℕ) (at : ℕ) (h : Header) : Type 0 where
   pub codes : h.code < 8
 
 pub standing : (s : List ℕ) (at : ℕ) (h : Header) → at ≤ length s → ((i : ℕ) → get_or s i 0 < 256)
-    → some h ≡ header_of (drop at s) → Standing s at h
+    → Some h ≡ header_of (drop at s) → Standing s at h
 standing s at h l b e =
     let w = size-within (drop at s) h (sym e) in
     let d = length-drop at s in
@@ -37,7 +37,7 @@ standing s at h l b e =
     }
 
 -- A header of one byte is the shortest, and no alias.
-pub one_byte : (s : List ℕ) (at : ℕ) (h : Header) → ((i : ℕ) → get_or s i 0 < 256) → some h ≡ header_of (drop at s)
+pub one_byte : (s : List ℕ) (at : ℕ) (h : Header) → ((i : ℕ) → get_or s i 0 < 256) → Some h ≡ header_of (drop at s)
     → h.size ≡ 1 → is_long h || is_negative_alias h ≡ false
 unfolding is_long is_negative_alias
 one_byte s at h b e z =
@@ -60,6 +60,6 @@ case {h = h} so e st = record {
 }
 
 pub judged_item : (s es : List ℕ) (names : ℕ) (o : Options) (a : State) {h : Header} (bs : List ℕ) (r : Out)
-    → some h ≡ header_of bs → Judged o s es names a (headed o a (some h) bs) r
+    → Some h ≡ header_of bs → Judged o s es names a (headed o a (Some h) bs) r
     → Judged o s es names a (item o a bs) r
 judged_item s es names o a {h} bs r e j = subst (λ (v : Answer State). Judged o s es names a v r) (sym (whole o a bs h e)) j

@@ -1,9 +1,9 @@
 -- The rules for one item as a ladder of choices, and which steps an item can stop at. Assumes nothing.
+use Rattle.std.specs.Prelude.{Option, None, Some, Err, Ok, is_some}
 use mathlib.Core.Path.{◌≡◌, refl, ap, sym, ◌∙◌}
 use mathlib.Core.Logic.{◌≢◌}
 use mathlib.Core.Bool.{Bool, true, false, not, ◌&&◌, ◌||◌, and-false}
 use mathlib.Core.List.{List, [], ◌∷◌}
-use mathlib.Core.Option.{Option, none, some}
 use Prim.Native.Nat.{ℕ, ◌+◌, ◌≤◌, ◌<◌}
 use lib.Dec.{leb, ltb}
 use lib.ListN.{length, drop}
@@ -12,19 +12,19 @@ use Rattle.format.specs.declared.error.Error.TheVariants.{InvalidUtf8, NotCanoni
 use Rattle.format.specs.Choice.{pick}
 use Rattle.format.specs.Limits.{max_entries}
 use Rattle.format.specs.declared.failure.Failure.{Failure}
-use Rattle.format.specs.Answer.{Rule, rule, first, Answer, failed, good, fail, unless}
+use Rattle.format.specs.Answer.{Rule, rule, first, Answer, fail, unless}
 use Rattle.format.specs.Header.{is_long, is_negative_alias, header_of}
 use Rattle.format.specs.Utf8.{bad_at, utf8}
 use Rattle.format.specs.Item.{Item, is_key, is_container, is_name, is_text}
-use Rattle.format.specs.Names.{index, is_some}
+use Rattle.format.specs.Names.{index}
 use Rattle.format.specs.Place.{key_after_key, is_too_deep}
 use Rattle.format.specs.Reading.{Options, State, Found, Form, form_of, is_content, item_of, is_missing, or_null, items_of, item_rules, after, headed, item}
 use Rattle.format.proofs.Tests.{leb_yes, leb_no, eqb_yes, eqb_no, pick_yes, pick_no}
 use Rattle.items.specs.Judging.{rowed}
 
 unfoldable pub ladder : List Rule → State → Answer State
-ladder [] b = good b
-ladder (r ∷ rs) b = let rest = ladder rs b in pick r.applies (failed r.gives) rest
+ladder [] b = Ok b
+ladder (r ∷ rs) b = let rest = ladder rs b in pick r.applies (Err r.gives) rest
 
 pub ladder_is : (rs : List Rule) (b : State) → unless (first rs) b ≡ ladder rs b
 unfolding ladder first unless
@@ -32,7 +32,7 @@ ladder_is [] b = refl
 ladder_is (r ∷ rs) b = both r.applies (ladder_is rs b)
   where
     both : (t : Bool) → unless (first rs) b ≡ ladder rs b
-        → unless (pick t (some r.gives) (first rs)) b ≡ pick t (failed r.gives) (ladder rs b)
+        → unless (pick t (Some r.gives) (first rs)) b ≡ pick t (Err r.gives) (ladder rs b)
     both true e = ap (λ (q : Option Failure). unless q b) (pick_yes _ _ refl) ∙ sym (pick_yes _ _ refl)
     both false e = ap (λ (q : Option Failure). unless q b) (pick_no _ _ refl) ∙ e ∙ sym (pick_no _ _ refl)
 
@@ -50,28 +50,28 @@ later o s h f bs x b =
 
 module _ (o : Options) (a : State) (h : Header) (bs : List ℕ) (f : Form) (ef : form_of h ≡ f) (short : o.strict
     && (is_long h || is_negative_alias h) ≡ false) where
-  pub to_later : (x : Found) → item_of f h.payload (a.at + h.size) (drop h.size bs) a.entries ≡ some x
-      → headed o a (some h) bs ≡ later o a h f (drop h.size bs) x.item (after a h f x)
+  pub to_later : (x : Found) → item_of f h.payload (a.at + h.size) (drop h.size bs) a.entries ≡ Some x
+      → headed o a (Some h) bs ≡ later o a h f (drop h.size bs) x.item (after a h f x)
   unfolding headed item_rules is_missing or_null ladder rule fail rowed
   to_later x e = rw (ef, e) (ladder_is _ _ ∙ pick_no _ _ short ∙ pick_no _ _ refl)
 
-  pub missing : item_of f h.payload (a.at + h.size) (drop h.size bs) a.entries ≡ none
-      → headed o a (some h) bs ≡ fail UndefinedReference a.at
+  pub missing : item_of f h.payload (a.at + h.size) (drop h.size bs) a.entries ≡ None
+      → headed o a (Some h) bs ≡ fail UndefinedReference a.at
   unfolding headed item_rules is_missing or_null ladder rule fail
   missing e = rw (ef, e) (ladder_is _ _ ∙ pick_no _ _ short ∙ pick_yes _ _ refl)
 
 pub waste : (o : Options) (a : State) (h : Header) (bs : List ℕ) {strict : Bool} → o.strict ≡ strict → strict
-    && (is_long h || is_negative_alias h) ≡ true → headed o a (some h) bs ≡ fail NotCanonical a.at
+    && (is_long h || is_negative_alias h) ≡ true → headed o a (Some h) bs ≡ fail NotCanonical a.at
 unfolding headed item_rules ladder rule fail
 waste o a h bs so e = ladder_is _ _ ∙ pick_yes _ _ (ap (λ (b : Bool). b && (is_long h || is_negative_alias h)) so ∙ e)
 
 -- ---- an item by its header
 
-pub cut : (o : Options) (a : State) (bs : List ℕ) → none ≡ header_of bs → item o a bs ≡ fail Truncated a.at
+pub cut : (o : Options) (a : State) (bs : List ℕ) → None ≡ header_of bs → item o a bs ≡ fail Truncated a.at
 unfolding item headed
 cut o a bs e = rw (← e)
 
-pub whole : (o : Options) (a : State) (bs : List ℕ) (h : Header) → some h ≡ header_of bs → item o a bs ≡ headed o a (some h) bs
+pub whole : (o : Options) (a : State) (bs : List ℕ) (h : Header) → Some h ≡ header_of bs → item o a bs ≡ headed o a (Some h) bs
 unfolding item
 whole o a bs h e = rw (← e)
 

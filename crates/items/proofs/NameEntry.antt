@@ -1,15 +1,15 @@
 -- A name in full in the packed table: what its entry stands for, and what a lookup of it says. Assumes nothing.
+use Rattle.std.specs.Prelude.{Option, None, Some, is_some}
 use mathlib.Core.Path.{◌≡◌, refl, ap, sym, ◌∙◌}
 use mathlib.Core.Bool.{true, false}
 use mathlib.Core.List.{List, [], ◌∷◌, ◌++◌, map}
-use mathlib.Core.Option.{Option, none, some}
 use Prim.Native.Nat.{ℕ, ◌+◌, ◌-◌, ◌≤◌, ◌<◌}
 use native.Mathlib.Omega.{arith}
 use lib.ListN.{length, take, drop, set, length-drop, length-set}
 use lib.Seq.{length-take-le}
 use Rattle.format.specs.declared.error.Error.TheVariants.{NotCanonical, TooManyEntries}
 use Rattle.format.specs.Item.{Item}
-use Rattle.format.specs.Names.{index, is_some}
+use Rattle.format.specs.Names.{index}
 use Rattle.format.specs.Reading.{Found, items_of}
 use Rattle.format.proofs.Tests.{clash}
 use Rattle.format.proofs.Names.{item_path}
@@ -81,20 +81,18 @@ module _ (s es : List ℕ) (names kind next e : ℕ) (lo : 10 ≤ kind) (hi : ki
         ∙ ap (index (name kind bytes)) (items-entries s es names) ∙ f)
 
     pub strict-known : {i : ℕ} {es' links' : List ℕ} {r : Out}
-        → index (name kind bytes) (names_in s s (take names es)) ≡ some i → r ≡ out.Bad NotCanonical
+        → index (name kind bytes) (names_in s s (take names es)) ≡ Some i → r ≡ out.Bad NotCanonical
         → Entered true s es es' links' names kind next e r
-    unfolding is_some
     strict-known f q = known (known_is f) q
 
-    pub strict-full : {es' links' : List ℕ} {r : Out} → index (name kind bytes) (names_in s s (take names es)) ≡ none
+    pub strict-full : {es' links' : List ℕ} {r : Out} → index (name kind bytes) (names_in s s (take names es)) ≡ None
         → 256 ≤ names → r ≡ out.Bad TooManyEntries
         → Entered true s es es' links' names kind next e r
-    unfolding is_some
     strict-full f l q = full (known_is f) l q
 
     pub strict-entered : {es' links' : List ℕ} {r : Out} → noting.Entered s s es es' links' names (name kind bytes) next
         → r ≡ fresh_of kind e → Entered true s es es' links' names kind next e r
-    unfolding is_some found_in
+    unfolding found_in
     strict-entered n q =
         let x : found_in s n.entry ≡ part = λ j. record { item = (n.named ∙ is_part) j; start = n.begins j } in
         entered (known_is n.new) n.room q

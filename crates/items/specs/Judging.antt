@@ -1,15 +1,15 @@
 -- How offsets, counts and the packed table stand for the state of `Reading`, and what the answers for one item mean.
-use Rattle.std.specs.Prelude.{◌≡◌, ◌≢◌, Bool, true, false, ◌&&◌, ◌||◌, List, [], ◌∷◌, ◌++◌, ℕ, ◌+◌, ◌-◌, ◌≤◌, ◌<◌, min, leb, eqb, length, take, drop}
+use Rattle.std.specs.Prelude.{◌≡◌, ◌≢◌, Bool, true, false, ◌&&◌, ◌||◌, List, [], ◌∷◌, ◌++◌, ℕ, ◌+◌, ◌-◌, ◌≤◌, ◌<◌, min, leb, eqb, length, take, drop, Ok, is_some}
 use Rattle.format.specs.declared.header.Header.{Header}
 use Rattle.format.specs.declared.error.Error.TheVariants.{InvalidUtf8, NotCanonical, TooManyEntries, TooManyRows}
 use Rattle.format.specs.Choice.{pick}
 use Rattle.format.specs.Limits.{max_rows, max_entries}
 use Rattle.format.specs.Kind as Kind
 use Rattle.format.specs.Code as Code
-use Rattle.format.specs.Answer.{Answer, good, fail}
+use Rattle.format.specs.Answer.{Answer, fail}
 use Rattle.format.specs.Header.{is_long, is_negative_alias}
 use Rattle.format.specs.Utf8.{bad_at}
-use Rattle.format.specs.Names.{index, is_some}
+use Rattle.format.specs.Names.{index}
 use Rattle.format.specs.Place.{Place, ended}
 use Rattle.format.specs.Reading.{Options, State, Found, items_of, content, form_of}
 use Rattle.symbols.specs.Entries.{entries_of, part_of}
@@ -55,7 +55,7 @@ Moves strict s es links at names depth (out.Container n u) = (0 < depth) × (0 <
 
 -- The last rule: there is a row for the item.
 unfoldable pub rowed : Options → State → State → Answer State
-rowed o a next = pick (leb (min max_rows o.capacity) (length a.found)) (fail TooManyRows a.at) (good next)
+rowed o a next = pick (leb (min max_rows o.capacity) (length a.found)) (fail TooManyRows a.at) (Ok next)
 
 abbrev pub spot : List ℕ → Bool → ℕ → Place
 spot k b f = record { opened = k; keyed = b; fields = f }

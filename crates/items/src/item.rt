@@ -1,6 +1,5 @@
 // One item, judged by the rules of reading in their order.
-ghost use Rattle.std.specs.Prelude.{◌≡◌, Bool, true, false, ◌&&◌, ◌||◌, List, ℕ, ◌+◌, ◌-◌, ◌≤◌, ◌<◌, length, drop};
-ghost use Rattle.std.proofs.Math.Option.{some};
+ghost use Rattle.std.specs.Prelude.{◌≡◌, Bool, true, false, ◌&&◌, ◌||◌, List, ℕ, ◌+◌, ◌-◌, ◌≤◌, ◌<◌, length, drop, Some};
 ghost use Rattle.format.specs.Kind as Kind;
 ghost use Rattle.format.specs.Code as Code;
 ghost use Rattle.format.specs.Limits.{max_bytes, max_entries, max_depth};
@@ -67,7 +66,7 @@ fn container(h: Header, next: usize, depth: usize) -> Out
         → Moves strict s es links at names depth result }
     ensures judged { (s es : List ℕ) (o : Options) (a : State) (bs : List ℕ) (at names keyed : ℕ)
         → Case s es at names keyed next h o a
-        → length a.place.opened + depth ≡ max_depth → Judged o s es names a (headed o a (some h) bs) result }
+        → length a.place.opened + depth ≡ max_depth → Judged o s es names a (headed o a (Some h) bs) result }
 {
     if depth == 0 {
         return Out::Bad(Error::TooDeep);
@@ -94,7 +93,7 @@ fn reference(
         → Moves strict s entries.now links at names depth result }
     ensures judged { (s : List ℕ) (o : Options) (a : State) (bs : List ℕ) (at : ℕ)
         → Case s entries.now at names keyed next h o a
-        → Judged o s entries.now names a (headed o a (some h) bs) result }
+        → Judged o s entries.now names a (headed o a (Some h) bs) result }
 {
     let p = h.payload;
     if (names as u64) <= p {
@@ -117,7 +116,7 @@ fn content(s: &[u8], h: Header, next: usize) -> Out
         → Moved strict s.now es links at next names → Moves strict s.now es links at names depth result }
     ensures judged { (es : List ℕ) (o : Options) (a : State) (at names keyed : ℕ)
         → Case s.now es at names keyed next h o a
-        → Judged o s.now es names a (headed o a (some h) (drop at s.now)) result }
+        → Judged o s.now es names a (headed o a (Some h) (drop at s.now)) result }
 {
     let len = ByteLength::of(h);
     let p = len.0;
@@ -199,7 +198,7 @@ fn name(
         → Moves strict s.now entries.new links.new at names depth result }
     ensures judged { (o : Options) (a : State) (at : ℕ) → o.strict ≡ strict
         → Case s.now entries.old at names keyed next h o a
-        → Judged o s.now entries.new names a (headed o a (some h) (drop at s.now)) result }
+        → Judged o s.now entries.new names a (headed o a (Some h) (drop at s.now)) result }
 {
     let kind = kind_of(h.code);
     if key_after_key(keyed, kind) {
@@ -232,12 +231,12 @@ fn judge(
     entries: &mut [u64; SymbolTable::MAX_ENTRIES],
     links: &mut [u16; Links::SIZE],
 ) -> Out
-    requires { (some h ≡ header_of (drop at s.now)) × (at ≤ length s.now) × (length s.now ≤ max_bytes)
+    requires { (Some h ≡ header_of (drop at s.now)) × (at ≤ length s.now) × (length s.now ≤ max_bytes)
         × Fair strict s.now entries.old links.old names }
     ensures moves { Moves strict s.now entries.new links.new at names depth result }
     ensures judged { (o : Options) (a : State) → o.strict ≡ strict
         → Stands s.now entries.old at names keyed a → length a.place.opened + depth ≡ max_depth
-        → Judged o s.now entries.new names a (headed o a (some h) (drop at s.now)) result }
+        → Judged o s.now entries.new names a (headed o a (Some h) (drop at s.now)) result }
 {
     if wasteful(strict, h) {
         return Out::Bad(Error::NotCanonical);

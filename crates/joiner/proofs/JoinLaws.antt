@@ -1,4 +1,5 @@
 -- From what checking answers to what joining and canonicalizing promise. Assumes nothing.
+use Rattle.std.specs.Prelude.{Err, Ok}
 use mathlib.Core.Path.{◌≡◌, refl, sym, ap, subst, ◌∙◌}
 use mathlib.Core.List.{List, [], ◌++◌, append-nil}
 use Prim.Native.Nat.{ℕ, ◌+◌, ◌≤◌}
@@ -8,7 +9,7 @@ use lib.ListN.{length}
 use Rattle.format.specs.declared.bundle.Bundle.{Bundle}
 use Rattle.format.specs.declared.failure.Failure.{Failure}
 use Rattle.format.specs.Choice.{pick}
-use Rattle.format.specs.Answer.{Answer, counted, failed, good, on_side, sided, stored, then}
+use Rattle.format.specs.Answer.{Answer, counted, on_side, sided, stored, then}
 use Rattle.format.specs.Item.{Item}
 use Rattle.format.specs.Place.{due, top}
 use Rattle.format.specs.Reading.{State, counts, counts_of, ending, items, items_of, lenient, reading, run, start}
@@ -20,8 +21,6 @@ use Rattle.format.proofs.Steps.{then-good}
 use Rattle.format.proofs.ReadBack.{reading-reads}
 use Rattle.format.proofs.Bounds.{reading-within, reads-rows}
 use Rattle.format.proofs.Joins.{together-within}
-use Rattle.format.specs.declared.written.Written.{Written}
-use Rattle.format.specs.declared.written.Written.TheVariants.{Failed}
 use Rattle.format.specs.Written.{Writes}
 use Rattle.format.specs.Demand3.{Joins}
 use Rattle.format.specs.Limits.{max_rows}
@@ -29,21 +28,21 @@ use Rattle.joiner.specs.Merging.{Both}
 
 -- ---- what checking says
 
-unread : (bs : List ℕ) {f : Failure} → failed f ≡ counts lenient bs → reading lenient bs ≡ failed f
+unread : (bs : List ℕ) {f : Failure} → Err f ≡ counts lenient bs → reading lenient bs ≡ Err f
 unfolding counts then
 unread bs {f} e = go (reading lenient bs) e
   where
-    go : (r : Answer State) → failed f ≡ then r (λ s. good (counts_of s)) → r ≡ failed f
-    go (failed g) q = ap failed (sym (failed_inj q))
-    go (good s) q = failed-good q
+    go : (r : Answer State) → Err f ≡ then r (λ s. Ok (counts_of s)) → r ≡ Err f
+    go (Err g) q = ap Err (sym (failed_inj q))
+    go (Ok s) q = failed-good q
 
 -- A bundle reads, and has so many rows.
 pub record Reads (bs : List ℕ) (rows : ℕ) : Type 0 where
   pub u : State
-  pub is : reading lenient bs ≡ good u
+  pub is : reading lenient bs ≡ Ok u
   pub count : rows ≡ length u.found
 
-pub reads : (bs : List ℕ) {b : Bundle} → good b ≡ counts lenient bs → Reads bs b.rows
+pub reads : (bs : List ℕ) {b : Bundle} → Ok b ≡ counts lenient bs → Reads bs b.rows
 unfolding counts counts_of
 reads bs e =
     let (u, p, q) = then-good (reading lenient bs) _ (sym e) in
@@ -59,23 +58,23 @@ both p q = record { u = p.u; v = q.u; first = p.is; second = q.is; count = omega
 -- ---- joining
 
 module _ (a b old : List ℕ) {f g : Failure} where
-  pub unread_first : failed f ≡ counts lenient a → g ≡ sided 1 f → Joins lenient a b old (Failed g) old
+  pub unread_first : Err f ≡ counts lenient a → g ≡ sided 1 f → Joins lenient a b old (Err g) old
   unfolding joining items on_side then counted stored
-  unread_first q e = let r = unread a q in record { answer = rw r (ap failed e); buffer = rw r }
+  unread_first q e = let r = unread a q in record { answer = rw r (ap Err e); buffer = rw r }
 
-  pub unread_second : {m : ℕ} → Reads a m → failed f ≡ counts lenient b → g ≡ sided 2 f → Joins lenient a b old (Failed g) old
+  pub unread_second : {m : ℕ} → Reads a m → Err f ≡ counts lenient b → g ≡ sided 2 f → Joins lenient a b old (Err g) old
   unfolding joining items on_side then counted stored
-  unread_second w q e = let r = unread b q in record { answer = rw (w.is, r) (ap failed e); buffer = rw (w.is, r) }
+  unread_second w q e = let r = unread b q in record { answer = rw (w.is, r) (ap Err e); buffer = rw (w.is, r) }
 
 -- ---- canonicalizing
 
-pub unread-alone : (bs old : List ℕ) {f : Failure} → failed f ≡ counts lenient bs
-    → Writes (canonicalizing bs (length old)) old (Failed f) old
+pub unread-alone : (bs old : List ℕ) {f : Failure} → Err f ≡ counts lenient bs
+    → Writes (canonicalizing bs (length old)) old (Err f) old
 unfolding canonicalizing items then counted stored
 unread-alone bs old q = let r = unread bs q in record { answer = rw r; buffer = rw r }
 
 -- the empty bundle
-empty_is : reading lenient [] ≡ good start
+empty_is : reading lenient [] ≡ Ok start
 unfolding reading run start ending pick due top
 empty_is = refl
 
@@ -101,5 +100,5 @@ module _ {bs : List ℕ} {m : ℕ} (w : Reads bs m) where
       let k : joining lenient bs [] capacity ≡ together capacity (xs ++ []) = rw (w.is, empty_is) in
       k ∙ ap (together capacity) (append-nil xs) ∙ together-within capacity xs (reading-within lenient bs w.is) ∙ sym (alone capacity)
 
-  pub canonicalized : {old new : List ℕ} {r : Written} → Joins lenient bs [] old r new → Writes (canonicalizing bs (length old)) old r new
+  pub canonicalized : {old new : List ℕ} {r : Answer ℕ} → Joins lenient bs [] old r new → Writes (canonicalizing bs (length old)) old r new
   canonicalized {old} j = rw (same (length old)) at j

@@ -1,4 +1,5 @@
 -- Two bundles that read, measured one after the other and then written: what each way out means. Assumes nothing.
+use Rattle.std.specs.Prelude.{Ok}
 use mathlib.Core.Path.{◌≡◌, refl, ap, ◌∙◌}
 use mathlib.Core.Bool.{true, false}
 use mathlib.Core.List.{List, [], ◌++◌, append-nil}
@@ -9,7 +10,7 @@ use lib.ListN.{length, replicate, length-append}
 use Rattle.format.specs.declared.error.Error.{Error}
 use Rattle.format.specs.declared.error.Error.TheVariants.{OutputTooLong, TooManyEntries, TooManyRows}
 use Rattle.format.specs.Limits.{max_entries, max_rows, max_bytes}
-use Rattle.format.specs.Answer.{counted, fail, good, on_side, stored, then}
+use Rattle.format.specs.Answer.{Answer, counted, fail, on_side, stored, then}
 use Rattle.format.specs.Item.{Item}
 use Rattle.format.specs.Names.{names_from}
 use Rattle.format.specs.Reading.{items, items_of, lenient}
@@ -25,8 +26,6 @@ use Rattle.symbols.proofs.EntryLaws.{side_first, side_second}
 use Rattle.symbols.proofs.ChainLaws.{length-names}
 use Rattle.encoder.proofs.MeasureLaws.{measured-none}
 use Rattle.rewriter.specs.declared.measuring.Tally.{Tally}
-use Rattle.format.specs.declared.written.Written.{Written}
-use Rattle.format.specs.declared.written.Written.TheVariants.{Done}
 use Rattle.format.specs.Written.{answer_of}
 use Rattle.rewriter.specs.declared.putting.Spot.{Spot}
 use Rattle.format.specs.Demand3.{Joins}
@@ -55,12 +54,12 @@ module _ {a b : List ℕ} {rows : ℕ} (p : Both a b rows) where
   both-rows : length (xs ++ ys) ≡ rows
   both-rows = length-append xs ys ∙ omega (arith, length-items p.u.found, length-items p.v.found, p.count)
 
-  refused : (old : List ℕ) {r : Written} (k : Error) → answer_of r ≡ fail k 0
+  refused : (old : List ℕ) {r : Answer ℕ} (k : Error) → answer_of r ≡ fail k 0
       → together (length old) (xs ++ ys) ≡ fail k 0 → Joins lenient a b old r old
   unfolding counted stored then fail
   refused old k q t = let e = joined (length old) ∙ t in record { answer = q ∙ rw e; buffer = rw e }
 
-  pub rows-over : (old : List ℕ) {r : Written} → answer_of r ≡ fail TooManyRows 0 → max_rows < rows → Joins lenient a b old r old
+  pub rows-over : (old : List ℕ) {r : Answer ℕ} → answer_of r ≡ fail TooManyRows 0 → max_rows < rows → Joins lenient a b old r old
   rows-over old q l = refused old TooManyRows q (together-rows (length old) (xs ++ ys) (rw both-rows l))
 
   -- ---- measured
@@ -110,7 +109,7 @@ module _ {a b : List ℕ} {rows : ℕ} (p : Both a b rows) where
           go (all k) = absurd (omega (arith, k.measured.table.table.few))
           go (over n h) = h
 
-      pub names-over : {r : Written} → answer_of r ≡ fail TooManyEntries 0 → max_entries < t.names → Joins lenient a b old r old
+      pub names-over : {r : Answer ℕ} → answer_of r ≡ fail TooManyEntries 0 → max_entries < t.names → Joins lenient a b old r old
       names-over q g = refused old TooManyEntries q (together-names (length old) (xs ++ ys) few (many g))
 
       module _ (g : t.names ≤ max_entries) where
@@ -124,7 +123,7 @@ module _ {a b : List ℕ} {rows : ℕ} (p : Both a b rows) where
         names : length (names_from [] (xs ++ ys)) ≤ max_entries
         names = omega (arith, ap length tallied.measured.names, length-names tallied.measured.table.table)
 
-        pub size-over : {r : Written} → answer_of r ≡ fail OutputTooLong 0
+        pub size-over : {r : Answer ℕ} → answer_of r ≡ fail OutputTooLong 0
             → ltb (min max_bytes (length old)) t.size ≡ true → Joins lenient a b old r old
         size-over q o =
             refused old OutputTooLong q
@@ -142,11 +141,11 @@ module _ {a b : List ℕ} {rows : ℕ} (p : Both a b rows) where
             fits = omega (arith, fits);
           }
 
-          pub written : {new : List ℕ} {w : Spot} → Put p old new w → Joins lenient a b old (Done t.size) new
+          pub written : {new : List ℕ} {w : Spot} → Put p old new w → Joins lenient a b old (Ok t.size) new
           unfolding counted stored then
           written q =
               let e = joined (length old) ∙ together-fits (length old) (xs ++ ys) (record { rows = few; names = names; size = fits }) in
-              record { answer = rw e (ap good tallied.measured.length_is); buffer = rw e q.puts.1 }
+              record { answer = rw e (ap Ok tallied.measured.length_is); buffer = rw e q.puts.1 }
 
   -- ---- written
 

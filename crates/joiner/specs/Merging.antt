@@ -1,7 +1,6 @@
 -- Two bundles that read, measured one after the other and then written.
-use Rattle.std.specs.Prelude.{ℕ, ◌+◌, ◌≤◌, ◌≡◌, List, [], ◌++◌, length}
+use Rattle.std.specs.Prelude.{ℕ, ◌+◌, ◌≤◌, ◌≡◌, List, [], ◌++◌, length, Ok}
 use Rattle.format.specs.Limits.{max_rows, max_entries}
-use Rattle.format.specs.Answer.{good}
 use Rattle.format.specs.Item.{Item}
 use Rattle.format.specs.Names.{names_from}
 use Rattle.format.specs.Reading.{State, items_of, lenient, reading}
@@ -23,8 +22,8 @@ top = record { at = 0; row = 0; out = 0 }
 pub record Both (a b : List ℕ) (rows : ℕ) : Type 0 where
   pub u : State
   pub v : State
-  pub first : reading lenient a ≡ good u
-  pub second : reading lenient b ≡ good v
+  pub first : reading lenient a ≡ Ok u
+  pub second : reading lenient b ≡ Ok v
   pub count : rows ≡ length u.found + length v.found
 
 abbrev pub items_of_both : {a b : List ℕ} {rows : ℕ} → Both a b rows → List Item

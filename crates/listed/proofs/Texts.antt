@@ -1,4 +1,5 @@
 -- Texts: how long they are, what a table says of a bundle's, and where there is room for them. Assumes nothing.
+use Rattle.std.specs.Prelude.{Err, Ok}
 use mathlib.Core.Path.{◌≡◌, refl, sym, ap, subst, subst⁻¹, ◌∙◌}
 use mathlib.Core.List.{List, [], ◌∷◌, ◌++◌, map, flatten}
 use Prim.Native.Nat.{ℕ, suc, ◌+◌, ◌*◌, ◌≤◌, ◌<◌}
@@ -12,7 +13,7 @@ use Rattle.format.specs.Limits.{max_rows}
 use Rattle.format.specs.declared.outcome.Outcome.{Outcome}
 use Rattle.format.specs.declared.outcome.Outcome.TheVariants.{Good}
 use Rattle.format.specs.Error.{code_of}
-use Rattle.format.specs.Answer.{Answer, failed, good, outcome_of, stored, then}
+use Rattle.format.specs.Answer.{Answer, outcome_of, stored, then}
 use Rattle.format.specs.Reading.{State, counts, counts_of, lenient, reading}
 use Rattle.format.specs.Rows.{blank, row_of, rows}
 use Rattle.format.proofs.Tests.{ltb_no, ltb_yes, pick_no, pick_yes}
@@ -37,8 +38,8 @@ length_line k word n other m =
 
 length-first : (k : ℕ) (r : Answer Bundle) → length (first_line k r) ≤ 81
 unfolding ascii first_line
-length-first k (good b) = length_line k rows_word b.rows names_word b.entries
-length-first k (failed r) = length_line k refused_word (code_of r.error) at_word r.place
+length-first k (Ok b) = length_line k rows_word b.rows names_word b.entries
+length-first k (Err r) = length_line k refused_word (code_of r.error) at_word r.place
 
 length-row : (i : ℕ) (r : Row) → length (row_line i r) ≤ 84
 unfolding row_line
@@ -61,10 +62,10 @@ module _ (bs : List ℕ) where
   abbrev pub printed : List Row
   printed = rows_of (rows lenient bs)
 
-  few_in : (r : Answer State) → reading lenient bs ≡ r → length (rows_of (then r (λ s. good (map row_of s.found)))) ≤ max_rows
+  few_in : (r : Answer State) → reading lenient bs ≡ r → length (rows_of (then r (λ s. Ok (map row_of s.found)))) ≤ max_rows
   unfolding rows_of then
-  few_in (failed f) e = omega arith
-  few_in (good u) e = omega (arith, length-map u.found row_of, length-items u.found, (reading-within lenient bs e).rows)
+  few_in (Err f) e = omega arith
+  few_in (Ok u) e = omega (arith, length-map u.found row_of, length-items u.found, (reading-within lenient bs e).rows)
 
   pub few-rows : length printed ≤ max_rows
   unfolding rows
@@ -74,10 +75,10 @@ module _ (bs : List ℕ) where
   unfolding text
   text-short k = omega (arith, length_flatten (first_line k (counts lenient bs)) (row_lines 0 printed), length-first k (counts lenient bs), length-rows 0 printed, few-rows)
 
-  counted_in : (r : Answer State) → rows_in (then r (λ s. good (counts_of s))) ≡ length (rows_of (then r (λ s. good (map row_of s.found))))
+  counted_in : (r : Answer State) → rows_in (then r (λ s. Ok (counts_of s))) ≡ length (rows_of (then r (λ s. Ok (map row_of s.found))))
   unfolding rows_in counts_of rows_of then
-  counted_in (failed f) = refl
-  counted_in (good u) = sym (length-map u.found row_of)
+  counted_in (Err f) = refl
+  counted_in (Ok u) = sym (length-map u.found row_of)
 
   counted : rows_in (counts lenient bs) ≡ length printed
   unfolding counts rows
@@ -96,8 +97,8 @@ module _ (bs : List ℕ) where
 
     held : (old : List Row) (r : Answer (List Row)) → stored old r ≡ rows_of r ++ drop (length (rows_of r)) old
     unfolding stored rows_of
-    held old (failed f) = refl
-    held old (good rs) = refl
+    held old (Err f) = refl
+    held old (Ok rs) = refl
 
     row_line_lem : (i : ℕ) → i < length printed
         → row_lines i (drop i printed) ≡ row_line i (get_or t.rows i blank) ∷ row_lines (i + 1) (drop (i + 1) printed)

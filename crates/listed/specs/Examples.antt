@@ -1,12 +1,12 @@
 -- The printed case of document 01, a bundle that is refused, an envelope that is refused and how long a first line is, computed.
-use Rattle.std.specs.Prelude.{ℕ, ◌≡◌, refl, length}
+use Rattle.std.specs.Prelude.{ℕ, ◌≡◌, refl, length, is_some, is_none, unwrap_or}
 use mathlib.Core.List.{List, [], ◌∷◌, flatten}
 use Rattle.format.specs.Choice.{pick}
 use Rattle.format.specs.Answer.{fail, first, rule, then, unless}
 use Rattle.format.specs.Header.{big_endian, digits, following, header, header_of, is_long, is_negative_alias, payload_of, shift, width, width_from}
-use Rattle.format.specs.Utf8.{bad_at, is_none, leads, or_zero, stop, stop_after, utf8, within}
+use Rattle.format.specs.Utf8.{bad_at, leads, stop, stop_after, utf8, within}
 use Rattle.format.specs.Item.{is_container, is_key, is_name, is_text}
-use Rattle.format.specs.Names.{index, index_from, is_some, same, same_name}
+use Rattle.format.specs.Names.{index, index_from, same, same_name}
 use Rattle.format.specs.Place.{due, ended as one_less, moved, top}
 use Rattle.format.specs.Reading.{after, counts, counts_of, ending, form_of, headed, is_content, is_missing, item, item_of, item_rules, items_of, or_null, reading, run, start}
 use Rattle.format.specs.Rows.{row_of, rows}
@@ -27,8 +27,8 @@ Printed =
 
 pub printed : Printed
 unfolding pick rule first fail unless then big_endian digits following payload_of header_of is_long is_negative_alias
-    width_from width shift header within leads stop_after stop is_none utf8 or_zero bad_at is_text is_name is_key is_container same same_name index_from
-    index is_some top one_less moved due items_of start form_of is_content item_of is_missing or_null item_rules after headed
+    width_from width shift header within leads stop_after stop utf8 bad_at is_text is_name is_key is_container same same_name index_from
+    index top one_less moved due items_of start form_of is_content item_of is_missing or_null item_rules after headed
     item ending run reading counts_of counts row_of rows ascii decimal_in decimal flatten labelled ended bundle_line
     first_line row_line row_lines rows_of text envelope_text
 printed = (refl, refl, refl, refl, refl)

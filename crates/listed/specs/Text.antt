@@ -1,5 +1,5 @@
 -- The text of `listing` (document 01, "Envelope and programs"), in ASCII: what is printed for one envelope.
-use Rattle.std.specs.Prelude.{ℕ, suc, ◌+◌, ◌*◌, ltb}
+use Rattle.std.specs.Prelude.{ℕ, suc, ◌+◌, ◌*◌, ltb, Err, Ok}
 use mathlib.Core.List.{List, [], ◌∷◌, flatten}
 use Rattle.format.specs.declared.bundle.Bundle.{Bundle}
 use Rattle.format.specs.declared.row.Row.{Row}
@@ -8,7 +8,7 @@ use Rattle.format.specs.declared.outcome.Outcome.TheVariants.{Good}
 use Rattle.format.specs.Choice.{pick}
 use Rattle.format.specs.Error.{code_of}
 use Rattle.format.specs.Limits.{max_rows}
-use Rattle.format.specs.Answer.{Answer, failed, good}
+use Rattle.format.specs.Answer.{Answer}
 use Rattle.format.specs.Reading.{counts, lenient}
 use Rattle.format.specs.Rows.{rows}
 use Rattle.ascii.specs.Text.{ascii, ended, labelled, max_digits, newline, space}
@@ -41,8 +41,8 @@ bundle_line k word n other m = flatten (labelled bundle_word k ∷ labelled word
 
 -- `bundle K rows R names N`, or `bundle K refused X at P`
 unfoldable pub first_line : ℕ → Answer Bundle → List ℕ
-first_line k (good b) = bundle_line k rows_word b.rows names_word b.entries
-first_line k (failed r) = bundle_line k refused_word (code_of r.error) at_word r.place
+first_line k (Ok b) = bundle_line k rows_word b.rows names_word b.entries
+first_line k (Err r) = bundle_line k refused_word (code_of r.error) at_word r.place
 
 -- a row: its index, kind, number and start
 unfoldable pub row_line : ℕ → Row → List ℕ
@@ -55,8 +55,8 @@ row_lines i (r ∷ rs) = row_line i r ∷ row_lines (suc i) rs
 
 -- the rows that are printed; none of a bundle that is refused
 unfoldable pub rows_of : Answer (List Row) → List Row
-rows_of (good rs) = rs
-rows_of (failed r) = []
+rows_of (Ok rs) = rs
+rows_of (Err r) = []
 
 -- ---- what is printed
 

@@ -1,4 +1,5 @@
 -- One envelope, by what opening answers. Assumes nothing.
+use Rattle.std.specs.Prelude.{Err, Ok}
 use mathlib.Core.Path.{◌≡◌, refl, ◌∙◌}
 use Prim.Native.Nat.{ℕ, ◌+◌, ◌≤◌}
 use mathlib.Core.List.{List, []}
@@ -7,7 +8,7 @@ use Rattle.format.specs.declared.failure.Failure.{Failure}
 use Rattle.format.specs.declared.outcome.Outcome.{Outcome}
 use Rattle.format.specs.declared.outcome.Outcome.TheVariants.{Failed, Good}
 use Rattle.format.specs.Error.{code_of}
-use Rattle.format.specs.Answer.{counted, failed, good, outcome_of, then}
+use Rattle.format.specs.Answer.{counted, outcome_of, then}
 use Rattle.format.specs.Envelope.{opening, overhead}
 use Rattle.format.specs.Reading.{counts, lenient}
 use Rattle.format.proofs.Tests.{ltb_no, pick_no}
@@ -32,7 +33,7 @@ module _ (old : List ℕ) (long : max_text ≤ length old) where
 
 module _ (k : ℕ) (bs old : List ℕ) (long : max_text ≤ length old) {new : List ℕ} where
   -- the envelope is refused
-  pub lists_error : {f : Failure} {x w : ℕ} → failed f ≡ counted (opening bs) → x ≡ code_of f.error
+  pub lists_error : {f : Failure} {x w : ℕ} → Err f ≡ counted (opening bs) → x ≡ code_of f.error
       → Puts (within (length old) (envelope_text k x)) w old new
       → Makes filter k bs old (record { used = 0; written = w; outcome = Failed f }) new
   unfolding printed reading_of step_of size_in outcome_of then
@@ -41,7 +42,7 @@ module _ (k : ℕ) (bs old : List ℕ) (long : max_text ≤ length old) {new : L
       let puts = rw (q, all_of_it old long (envelope_text k _)) at t in
       record { step = rw (z, puts.0) refl; puts = rw z puts }
 
-  pub lists_bundle : {n : ℕ} (b : List ℕ) → good n ≡ counted (opening bs) → b ≡ bundle_in (opening bs) → {r : Printed} → Prints k b old r new
+  pub lists_bundle : {n : ℕ} (b : List ℕ) → Ok n ≡ counted (opening bs) → b ≡ bundle_in (opening bs) → {r : Printed} → Prints k b old r new
       → Makes filter k bs old (record { used = overhead + n; written = r.written; outcome = r.outcome }) new
   unfolding printed reading_of step_of size_in then
   lists_bundle b q e t =

@@ -1,8 +1,8 @@
 -- What `listing` prints for one envelope: the text for its bundle, or that it is refused.
-use Rattle.std.specs.Prelude.{ℕ, List, length}
+use Rattle.std.specs.Prelude.{ℕ, List, length, Err, Ok}
 use Rattle.format.specs.declared.bundle.Bundle.{Bundle}
 use Rattle.format.specs.Error.{code_of}
-use Rattle.format.specs.Answer.{Answer, failed, good, outcome_of, then}
+use Rattle.format.specs.Answer.{Answer, outcome_of, then}
 use Rattle.format.specs.Reading.{counts, lenient}
 use Rattle.envelope.specs.Answers.{size_in}
 use Rattle.stream.specs.declared.state.Step.{Step}
@@ -11,8 +11,8 @@ use Rattle.listed.specs.Text.{envelope_text, max_text, text}
 
 -- By what opening answers.
 unfoldable pub printed : ℕ → Answer (List ℕ) → List ℕ
-printed k (failed f) = envelope_text k (code_of f.error)
-printed k (good bs) = text k bs
+printed k (Err f) = envelope_text k (code_of f.error)
+printed k (Ok bs) = text k bs
 
 -- What reading the envelope answers: its own error comes first.
 unfoldable pub reading_of : Answer (List ℕ) → Answer Bundle

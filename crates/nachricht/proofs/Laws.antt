@@ -1,4 +1,5 @@
 -- The laws of writing and reading together: each proves a statement of specs/Laws. Assumes nothing.
+use Rattle.std.specs.Prelude.{Ok}
 use mathlib.Core.Path.{◌≡◌, sym, ap, ◌∙◌}
 use Prim.Native.Nat.{ℕ}
 use native.Mathlib.Omega.{arith}
@@ -7,7 +8,7 @@ use lib.ListN.{length, take, length-map}
 use Rattle.format.specs.declared.bundle.Bundle.{Bundle}
 use Rattle.format.specs.declared.error.Mode.{Mode}
 use Rattle.format.specs.declared.row.Row.{Row}
-use Rattle.format.specs.Answer.{Answer, good, then}
+use Rattle.format.specs.Answer.{Answer, then}
 use Rattle.format.specs.Reading.{State, counts, counts_of, items, items_of, options, reading}
 use Rattle.format.specs.Rows.{item_at, items_at, row_of, rows}
 use Rattle.format.specs.Writing.{writing}
@@ -20,9 +21,8 @@ use Rattle.format.proofs.Rows.{rows_mean}
 use Rattle.format.proofs.Writes.{writing-written}
 use Rattle.format.proofs.Laws.{rewriting_law}
 use Rattle.reader.specs.declared.checking.Checked.{Checked}
-use Rattle.reader.specs.declared.checking.Checked.TheVariants.{Failed, Good}
+use Rattle.reader.specs.declared.checking.Checked.TheVariants.{Err, Good}
 use Rattle.reader.specs.Answers.{answer_of}
-use Rattle.format.specs.declared.written.Written.TheVariants.{Done}
 use Rattle.reader.specs.Promises.{Read}
 use Rattle.format.specs.Written.{Writes}
 use Rattle.nachricht.specs.Laws.{RewritesCanonically, WrittenReadsBack}
@@ -30,16 +30,16 @@ use Rattle.nachricht.specs.Laws.{RewritesCanonically, WrittenReadsBack}
 -- ---- what a good answer leaves
 
 -- What was written is the front of the buffer.
-wrote_done : {result : Answer (List ℕ)} {old new : List ℕ} {n : ℕ} → Writes result old (Done n) new → result ≡ good (take n new)
+wrote_done : {result : Answer (List ℕ)} {old new : List ℕ} {n : ℕ} → Writes result old (Ok n) new → result ≡ Ok (take n new)
 wrote_done {old = old} p = (stored-counted old _ p.buffer (sym p.answer)).0
 
-checked_good : (r : Checked) {b : Bundle} → answer_of r ≡ good b → r ≡ Good b
+checked_good : (r : Checked) {b : Bundle} → answer_of r ≡ Ok b → r ≡ Good b
 checked_good (Good c) e = ap Good (good_inj e)
-checked_good (Failed f) e = failed-good e
+checked_good (Err f) e = failed-good e
 
 -- Of a bundle that reads, the counts are answered, and its rows are the front of the table.
 read-good : {mode : Mode} {bytes : List ℕ} {table table' : List Row} {r : Checked} {u : State}
-    → Read mode bytes table r table' → reading (options mode (length table)) bytes ≡ good u
+    → Read mode bytes table r table' → reading (options mode (length table)) bytes ≡ Ok u
     → (r ≡ Good (counts_of u)) × Stored table table' (map row_of u.found) (length u.found)
 unfolding counts rows then
 read-good {r = r} {u} p e = (checked_good r (p.answer ∙ rw e), stored-good p.filled (rw e) (length-map u.found row_of))
@@ -77,6 +77,6 @@ rewrites_canonically mode bytes table table' b y p old new w q =
     let c = ap (λ (rs : List Row). writing rs bytes (length old)) front ∙ (rewriting_law o bytes (length old) y e).canonically in
     record {
       xs = items_of u.found;
-      meant = ap (λ (a : Answer State). then a (λ t. good (items_of t.found))) e;
+      meant = ap (λ (a : Answer State). then a (λ t. Ok (items_of t.found))) e;
       writes = rw c at q;
     }

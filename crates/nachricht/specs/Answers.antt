@@ -1,11 +1,10 @@
 -- The answer of a call by what the definitions say of it.
-use Rattle.std.specs.Prelude.{ℕ, Bool, true, false}
+use Rattle.std.specs.Prelude.{ℕ, Bool, true, false, Err, Ok}
 use Rattle.format.specs.declared.bundle.Bundle.{Bundle}
 use Rattle.format.specs.declared.error.Mode.{Mode}
 use Rattle.format.specs.declared.error.Mode.TheVariants.{Lenient, Strict}
 use Rattle.format.specs.declared.failure.Failure.{Failure}
 use Rattle.format.specs.Error.{code_of}
-use Rattle.format.specs.Answer.{failed, good}
 use Rattle.format.specs.Answer as answer
 use Rattle.nachricht.specs.declared.Answer.{Answer}
 
@@ -26,8 +25,8 @@ failed_answer f = record {
 
 -- the counts of a bundle
 unfoldable pub counts_answer : answer.Answer Bundle → Answer
-counts_answer (failed f) = failed_answer f
-counts_answer (good b) = record {
+counts_answer (Err f) = failed_answer f
+counts_answer (Ok b) = record {
   error = 0;
   place = 0;
   side = 0;
@@ -39,5 +38,5 @@ counts_answer (good b) = record {
 
 -- the number of bytes written
 unfoldable pub count_answer : answer.Answer ℕ → Answer
-count_answer (failed f) = failed_answer f
-count_answer (good n) = record { error = 0; place = 0; side = 0; row = 0; count = n; entries = 0; fields = 0 }
+count_answer (Err f) = failed_answer f
+count_answer (Ok n) = record { error = 0; place = 0; side = 0; row = 0; count = n; entries = 0; fields = 0 }

@@ -1,9 +1,9 @@
 -- Two laws of writing and reading together, from what `write` and `read` promise alone. proofs/Laws proves both.
-use Rattle.std.specs.Prelude.{◌≡◌, ℕ, ◌≤◌, List, length, take, drop}
+use Rattle.format.specs.Answer.{Answer}
+use Rattle.std.specs.Prelude.{◌≡◌, ℕ, ◌≤◌, List, length, take, drop, Ok}
 use Rattle.format.specs.declared.bundle.Bundle.{Bundle}
 use Rattle.format.specs.declared.error.Mode.{Mode}
 use Rattle.format.specs.declared.row.Row.{Row}
-use Rattle.format.specs.Answer.{good}
 use Rattle.format.specs.Item.{Item}
 use Rattle.format.specs.WellFormed.{All, Bytes}
 use Rattle.format.specs.Reading.{items, options}
@@ -13,8 +13,6 @@ use Rattle.format.specs.Writing.{fitted, writing}
 use Rattle.reader.specs.declared.checking.Checked.{Checked}
 use Rattle.reader.specs.declared.checking.Checked.TheVariants.{Good}
 use Rattle.reader.specs.Promises.{Read}
-use Rattle.format.specs.declared.written.Written.{Written}
-use Rattle.format.specs.declared.written.Written.TheVariants.{Done}
 use Rattle.format.specs.Written.{Writes}
 
 -- ---- what is written reads back
@@ -33,17 +31,17 @@ pub record ReadsBack (rs : List Row) (text bytes : List ℕ) (table : List Row) 
 -- What `write` writes reads back, by `read`'s own promise, as the rows' items: in both modes, and into any table that has as many rows.
 abbrev pub WrittenReadsBack : Type 0
 WrittenReadsBack =
-    (rs : List Row) (text old new : List ℕ) (n : ℕ) → Bytes text → All Word rs → Writes (writing rs text (length old)) old (Done n) new
+    (rs : List Row) (text old new : List ℕ) (n : ℕ) → Bytes text → All Word rs → Writes (writing rs text (length old)) old (Ok n) new
     → (mode : Mode) (table table' : List Row) (r : Checked) → length rs ≤ length table → Read mode (take n new) table r table'
     → ReadsBack rs text (take n new) table r table'
 
 -- ---- what was read is written canonically
 
 -- A buffer into which the canonical encoding of a bundle's items was written, if it fits.
-pub record Rewritten (mode : Mode) (bytes : List ℕ) (table : List Row) (old : List ℕ) (w : Written) (new : List ℕ) : Type 0 where
+pub record Rewritten (mode : Mode) (bytes : List ℕ) (table : List Row) (old : List ℕ) (w : Answer ℕ) (new : List ℕ) : Type 0 where
   -- the items that the bytes read as
   pub xs : List Item
-  pub meant : items (options mode (length table)) bytes ≡ good xs
+  pub meant : items (options mode (length table)) bytes ≡ Ok xs
   -- the answer is the encoding's length, or error 10 where that is over the limit or the buffer; the encoding stands
   -- first in the buffer, and the rest stays as it was, on an error all of it
   pub writes : Writes (fitted (length old) (canonical xs)) old w new
@@ -52,5 +50,5 @@ pub record Rewritten (mode : Mode) (bytes : List ℕ) (table : List Row) (old : 
 abbrev pub RewritesCanonically : Type 0
 RewritesCanonically =
     (mode : Mode) (bytes : List ℕ) (table table' : List Row) (b : Bundle) → Bytes bytes → Read mode bytes table (Good b) table'
-    → (old new : List ℕ) (w : Written) → Writes (writing (take b.rows table') bytes (length old)) old w new
+    → (old new : List ℕ) (w : Answer ℕ) → Writes (writing (take b.rows table') bytes (length old)) old w new
     → Rewritten mode bytes table old w new

@@ -1,8 +1,8 @@
 // The calls of the C interface, which `nachricht_c` exports, with plain numbers for what they answer.
 #![tactic(auto)]
 
-ghost use Rattle.std.specs.Prelude.{◌≡◌, length};
-ghost use Rattle.format.specs.Answer.{counted, good, stored};
+ghost use Rattle.std.specs.Prelude.{◌≡◌, length, Ok};
+ghost use Rattle.format.specs.Answer.{counted, stored};
 ghost use Rattle.format.specs.Limits.{max_rows};
 ghost use Rattle.format.specs.Reading.{options, counts, lenient};
 ghost use Rattle.format.specs.Rows as table;

@@ -1,4 +1,5 @@
 -- The second pass, row by row: all that the walk of `fill` knows of the rows. Assumes nothing.
+use Rattle.std.specs.Prelude.{Err, Ok}
 use mathlib.Core.Path.{◌≡◌, refl, sym, ap, ap₂, ◌∙◌}
 use mathlib.Core.List.{List, [], ◌∷◌, ◌++◌, map}
 use Prim.Native.Nat.{ℕ, ◌+◌, ◌≤◌, ◌<◌}
@@ -8,7 +9,7 @@ use lib.ListN.{length, take, drop, set, length-append, length-map, take-append-d
 use lib.Seq.{take-suc-set, drop-drop, drop-set-lt}
 use Rattle.format.specs.declared.row.Row.{Row}
 use Rattle.format.specs.Limits.{max_entries}
-use Rattle.format.specs.Answer.{Answer, good, failed, then, stored}
+use Rattle.format.specs.Answer.{Answer, then, stored}
 use Rattle.format.specs.Reading.{Options, State, counts, counts_of, reading, start}
 use Rattle.format.specs.Rows.{row_of, rows}
 use Rattle.format.proofs.Tests.{order}
@@ -26,7 +27,7 @@ use Rattle.reader.specs.Filling.{Fillable, Fills}
 -- What reading answers: an error and no row, or a state with n of them.
 data Counted (o : Options) (bs : List ℕ) (n : ℕ) : Type 0 where
   none : n ≡ 0 → ((old : List Row) → old ≡ stored old (rows o bs)) → Counted o bs n
-  all : (u : State) → reading o bs ≡ good u → length u.found ≡ n
+  all : (u : State) → reading o bs ≡ Ok u → length u.found ≡ n
       → ((old : List Row) → map row_of u.found ++ drop n old ≡ stored old (rows o bs)) → Counted o bs n
 
 counted_as : (o : Options) (bs : List ℕ) {n : ℕ} → n ≡ rows_in (counts o bs) → Counted o bs n
@@ -34,8 +35,8 @@ unfolding counts rows then rows_in counts_of stored
 counted_as o bs {n} c = go (reading o bs) refl
   where
     go : (r : Answer State) → reading o bs ≡ r → Counted o bs n
-    go (failed q) e = none (rw e at c) (λ old. rw e refl)
-    go (good u) e = let m : length u.found ≡ n = sym (rw e at c) in all u e m (λ old. rw (e, length-map u.found row_of, m) refl)
+    go (Err q) e = none (rw e at c) (λ old. rw e refl)
+    go (Ok u) e = let m : length u.found ≡ n = sym (rw e at c) in all u e m (λ old. rw (e, length-map u.found row_of, m) refl)
 
 -- There are no more than a table has.
 pub counted-within : (o : Options) (bs : List ℕ) {n : ℕ} → n ≡ rows_in (counts o bs) → n ≤ o.capacity
@@ -57,7 +58,7 @@ pub record Filled (o : Options) (bs : List ℕ) (u : State) (i : ℕ) (table : L
 
 -- The first i of n rows are filled, the others are as before.
 pub record Filling (bs : List ℕ) (n i : ℕ) (table : List ℕ) (w : Walked) (old zs : List Row) : Type 0 where
-  pub front : (o : Options) (u : State) → reading o bs ≡ good u → length u.found ≡ n → Filled o bs u i table w (take i zs)
+  pub front : (o : Options) (u : State) → reading o bs ≡ Ok u → length u.found ≡ n → Filled o bs u i table w (take i zs)
   pub rest : drop i zs ≡ drop i old
 
 pub fill_start : (bs : List ℕ) (n : ℕ) (table : List ℕ) (old : List Row) → length table ≡ max_entries → Filling bs n 0 table begin old old
@@ -80,7 +81,7 @@ module _ {bs : List ℕ} {n i : ℕ} {table : List ℕ} {w : Walked} {old zs : L
       → Filling bs n (i + 1) table' r old (set zs i r.row)
   fill_on {table'} {r} l next = record { front = front; rest = rest }
     where
-      front : (o : Options) (u : State) → reading o bs ≡ good u → length u.found ≡ n
+      front : (o : Options) (u : State) → reading o bs ≡ Ok u → length u.found ≡ n
           → Filled o bs u (i + 1) table' r (take (i + 1) (set zs i r.row))
       front o u e m =
           let d = g.front o u e m in

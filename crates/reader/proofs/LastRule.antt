@@ -1,4 +1,5 @@
 -- The last rule, the count of rows, after all others. Assumes nothing.
+use Rattle.std.specs.Prelude.{Ok}
 use mathlib.Core.Path.{◌≡◌, ◌∙◌}
 use mathlib.Core.Logic.{◌≢◌}
 use mathlib.Core.Bool.{true, false}
@@ -8,7 +9,7 @@ use native.Mathlib.Omega.{arith}
 use lib.ListN.{length}
 use Rattle.format.specs.Limits.{max_rows}
 use Rattle.format.specs.declared.error.Error.TheVariants.{InvalidUtf8, TooManyRows}
-use Rattle.format.specs.Answer.{Answer, good, fail}
+use Rattle.format.specs.Answer.{Answer, fail}
 use Rattle.format.specs.Place.{Place, ended}
 use Rattle.format.specs.Reading.{Options, State}
 use Rattle.format.proofs.Tests.{leb_yes, leb_no, pick_yes, pick_no}
@@ -29,7 +30,7 @@ rowless_of (out.Container n u) = out.Bad TooManyRows
 -- An answer is good, with a state that offset and counts stand for, at a place, with rows left.
 pub record Taken (o : Options) (s es : List ℕ) (at names keyed rows : ℕ) (p : Place) (r : Answer State) : Type 0 where
   pub next : State
-  pub is : r ≡ good next
+  pub is : r ≡ Ok next
   pub stands : Stands s es at names keyed next
   pub place : next.place ≡ p
   pub row : length next.found + rows ≡ min max_rows o.capacity
@@ -49,7 +50,7 @@ module _ (o : Options) (a : State) (rows : ℕ) (e : length a.found + rows ≡ m
   unfolding rowed
   full z b = pick_yes _ _ (leb_yes {a = min max_rows o.capacity} {b = length a.found} (omega arith))
 
-  vacant : rows ≢ 0 → (b : State) → rowed o a b ≡ good b
+  vacant : rows ≢ 0 → (b : State) → rowed o a b ≡ Ok b
   unfolding rowed
   vacant n b = pick_no _ _ (leb_no {a = min max_rows o.capacity} {b = length a.found} (omega (arith, n)))
 

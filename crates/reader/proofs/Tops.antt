@@ -1,4 +1,5 @@
 -- The fields at the top: where the loop starts, and what its ends mean. Assumes nothing.
+use Rattle.std.specs.Prelude.{Err, Ok}
 use mathlib.Core.Path.{◌≡◌, refl, ap, sym, ◌∙◌}
 use mathlib.Core.Bool.{Bool, true, false}
 use mathlib.Core.List.{List, []}
@@ -9,7 +10,7 @@ use lib.ListN.{length, drop, replicate}
 use Rattle.format.specs.declared.failure.Failure.{Failure}
 use Rattle.format.specs.declared.error.Error.TheVariants.{TooLong, Truncated}
 use Rattle.format.specs.Limits.{max_bytes, max_rows, max_depth}
-use Rattle.format.specs.Answer.{Answer, fail, failed, good, then}
+use Rattle.format.specs.Answer.{Answer, fail, then}
 use Rattle.format.specs.Place.{Place, top, ended, due}
 use Rattle.format.specs.Reading.{Options, State, start, ending, run, reading, counts_of, counts}
 use Rattle.format.proofs.Steps.{run_end}
@@ -56,16 +57,16 @@ top-place = refl
 module _ (o : Options) (s : List ℕ) where
   pub too_long : max_bytes < length s → fail TooLong 0 ≡ counts o s
   unfolding counts reading then fail
-  too_long l = sym (ap (λ (x : Answer State). then x (λ u. good (counts_of u))) (pick_yes _ _ (ltb_yes l)))
+  too_long l = sym (ap (λ (x : Answer State). then x (λ u. Ok (counts_of u))) (pick_yes _ _ (ltb_yes l)))
 
   module _ (short : length s ≤ max_bytes) where
-    from_start : (v : Answer State) → run o start 0 (drop start.at s) ≡ v → counts o s ≡ then v (λ u. good (counts_of u))
+    from_start : (v : Answer State) → run o start 0 (drop start.at s) ≡ v → counts o s ≡ then v (λ u. Ok (counts_of u))
     unfolding counts reading start
-    from_start v e = ap (λ (x : Answer State). then x (λ u. good (counts_of u))) (pick_no _ _ (ltb_no short) ∙ e)
+    from_start v e = ap (λ (x : Answer State). then x (λ u. Ok (counts_of u))) (pick_no _ _ (ltb_no short) ∙ e)
 
-    pub top-failed : {f : Failure} → run o start 0 (drop start.at s) ≡ failed f → failed f ≡ counts o s
+    pub top-failed : {f : Failure} → run o start 0 (drop start.at s) ≡ Err f → Err f ≡ counts o s
     unfolding then
-    top-failed {f} e = sym (from_start (failed f) e)
+    top-failed {f} e = sym (from_start (Err f) e)
 
     module _ {es : List ℕ} {t : Cursor} {f : ℕ} (lead : Leads o s es t (spot [] (eqb t.keyed 1) f) start) (l : length s ≤ t.at) where
       at-end : run o start 0 (drop start.at s) ≡ ending lead.next
@@ -82,4 +83,4 @@ module _ (o : Options) (s : List ℕ) where
           let r : length lead.next.found ≡ most - t.rows = omega (arith, lead.row) in
           let e : length lead.next.entries ≡ t.names = ap length lead.stands.entries ∙ length-entries s es t.names size few in
           let g : lead.next.place.fields ≡ f = ap (λ (p : Place). p.fields) lead.place in
-          sym (from_start (good lead.next) (at-end ∙ pick_no _ _ (ap due lead.place ∙ rw k)) ∙ ap good (rw (r, e, g)))
+          sym (from_start (Ok lead.next) (at-end ∙ pick_no _ _ (ap due lead.place ∙ rw k)) ∙ ap Ok (rw (r, e, g)))

@@ -1,4 +1,5 @@
 -- A turn of the loop over fields: what one item, or a container read whole, does to the run. Assumes nothing.
+use Rattle.std.specs.Prelude.{Err}
 use mathlib.Core.Path.{◌≡◌, refl, ap, sym, subst, ◌∙◌}
 use mathlib.Core.Logic.{◌≢◌}
 use mathlib.Core.Bool.{Bool, true, false}
@@ -12,7 +13,7 @@ use Rattle.format.specs.declared.error.Error.TheVariants.{InvalidUtf8, TooManyRo
 use Rattle.format.specs.declared.header.FieldCount.{FieldCount}
 use Rattle.format.specs.Limits.{max_rows, max_depth}
 use Rattle.format.specs.declared.failure.Failure.{Failure}
-use Rattle.format.specs.Answer.{Answer, fail, failed, failure}
+use Rattle.format.specs.Answer.{Answer, fail, failure}
 use Rattle.format.specs.Place.{Place, ended, due}
 use Rattle.format.specs.Reading.{Options, State, item, ending, run}
 use Rattle.format.proofs.Steps.{run-to, run-failed, run_end}
@@ -103,22 +104,22 @@ module _ {o : Options} {s es : List ℕ} {t : Cursor} {p : Place} {a : State} (l
   stops_at k p j = lead.is ∙ run-failed o from s (omega (arith, lead.stands.offset)) j
 
   stops : {f : Failure} (k : Error) → f ≡ failure k t.at → this ≡ fail k from.at
-      → run o a 0 (drop a.at s) ≡ failed f
+      → run o a 0 (drop a.at s) ≡ Err f
   unfolding fail
-  stops k g j = stops_at k from.at j ∙ ap (λ (p : ℕ). failed (failure k p)) lead.stands.offset ∙ ap failed (sym g)
+  stops k g j = stops_at k from.at j ∙ ap (λ (p : ℕ). Err (failure k p)) lead.stands.offset ∙ ap Err (sym g)
 
-  pub turn_bad : {f : Failure} (k : Error) → f ≡ failure k t.at → r ≡ out.Bad k → run o a 0 (drop a.at s) ≡ failed f
+  pub turn_bad : {f : Failure} (k : Error) → f ≡ failure k t.at → r ≡ out.Bad k → run o a 0 (drop a.at s) ≡ Err f
   turn_bad k g e = stops k g (subst (Judged o s es' t.names from this) e judged)
 
   -- a text that is not UTF-8
   pub turn_bad_text : (i u : ℕ) → r ≡ out.BadText i u
-      → run o a 0 (drop a.at s) ≡ failed (failure InvalidUtf8 (stop_in s i u))
+      → run o a 0 (drop a.at s) ≡ Err (failure InvalidUtf8 (stop_in s i u))
   unfolding fail
   turn_bad_text i u e = stops_at InvalidUtf8 (stop_in s i u) (subst (Judged o s es' t.names from this) e judged)
 
   -- an item that is no error, and no row for it
   pub turn_full : {f : Failure} → f ≡ failure TooManyRows t.at → (x : Out) → r ≡ x
-      → rowless_of x ≡ out.Bad TooManyRows → t.rows ≡ 0 → run o a 0 (drop a.at s) ≡ failed f
+      → rowless_of x ≡ out.Bad TooManyRows → t.rows ≡ 0 → run o a 0 (drop a.at s) ≡ Err f
   turn_full h x g e z = stops TooManyRows h (subst (Takes o s es' t.names t.rows from this) (ap rowless_of g ∙ e)
       (takes_none o from t.rows lead.row s es' this t.names r z judged))
 
@@ -150,12 +151,12 @@ module _ {o : Options} {s es : List ℕ} {t : Cursor} {p : Place} {a : State} (l
         (inside_lane p.opened p.fields (d - 1) n.0 (omega arith)) held.stands held.row
         (held.place ∙ sym (midway_some n.0 false p.opened p.fields some))
 
-    pub held-bad : (f : Failure) → q ≡ step.Bad f → run o a 0 (drop a.at s) ≡ failed f
+    pub held-bad : (f : Failure) → q ≡ step.Bad f → run o a 0 (drop a.at s) ≡ Err f
     held-bad f g = held.is ∙ subst (λ (v : Step). Resumes o s es'' (inside p.opened p.fields) held.next v) g resumed
 
     -- the bytes end inside a container
     pub held-end : {f : Failure} (left : ℕ) (v : Cursor) → f ≡ failure Truncated v.at → q ≡ step.End left v
-        → 0 < left → length s ≤ v.at → run o a 0 (drop a.at s) ≡ failed f
+        → 0 < left → length s ≤ v.at → run o a 0 (drop a.at s) ≡ Err f
     unfolding ending fail
     held-end left v h g l w =
         let r : Leads o s es'' v (midway left (eqb v.keyed 1) p.opened p.fields) held.next = subst
@@ -164,7 +165,7 @@ module _ {o : Options} {s es : List ℕ} {t : Cursor} {p : Place} {a : State} (l
         ∙ midway_some left (eqb v.keyed 1) p.opened p.fields l)
         ∙ due_open left p.opened (eqb v.keyed 1) p.fields in
         held.is ∙ r.is ∙ run_end o r.next s (omega (arith, r.stands.offset)) ∙ pick_yes _ _ x
-        ∙ ap (λ (p : ℕ). failed (failure Truncated p)) r.stands.offset ∙ ap failed (sym h)
+        ∙ ap (λ (p : ℕ). Err (failure Truncated p)) r.stands.offset ∙ ap Err (sym h)
 
     pub held-good : (v : Cursor) → q ≡ step.Good v → Leads o s es'' v (ended p.opened p.fields) a
     unfolding midway
@@ -185,15 +186,15 @@ module _ {o : Options} {s es : List ℕ} {t : Cursor} {a : State} (Q : ℕ → B
   abbrev less : ended (Q left (eqb t.keyed 1)).opened (Q left (eqb t.keyed 1)).fields ≡ Q (left - 1) false
   less = lane.value left (eqb t.keyed 1) pos most
 
-  pub field_bad : {f : Failure} (k : Error) → f ≡ failure k t.at → r ≡ out.Bad k → run o a 0 (drop a.at s) ≡ failed f
+  pub field_bad : {f : Failure} (k : Error) → f ≡ failure k t.at → r ≡ out.Bad k → run o a 0 (drop a.at s) ≡ Err f
   field_bad k g e = turn_bad lead here es' d deep r one k g e
 
   pub field_bad_text : (i u : ℕ) → r ≡ out.BadText i u
-      → run o a 0 (drop a.at s) ≡ failed (failure InvalidUtf8 (stop_in s i u))
+      → run o a 0 (drop a.at s) ≡ Err (failure InvalidUtf8 (stop_in s i u))
   field_bad_text i u e = turn_bad_text lead here es' d deep r one i u e
 
   pub field_full : {f : Failure} → f ≡ failure TooManyRows t.at → (x : Out) → r ≡ x
-      → rowless_of x ≡ out.Bad TooManyRows → t.rows ≡ 0 → run o a 0 (drop a.at s) ≡ failed f
+      → rowless_of x ≡ out.Bad TooManyRows → t.rows ≡ 0 → run o a 0 (drop a.at s) ≡ Err f
   field_full h x g e z = turn_full lead here es' d deep r one h x g e z
 
   pub field_value : t.rows ≢ 0 → (u : ℕ) → r ≡ out.Value u → Leads o s es' (cursor u t.names (t.rows - 1) 0) (Q (left - 1) false) a
@@ -217,11 +218,11 @@ module _ {o : Options} {s es : List ℕ} {t : Cursor} {a : State} (Q : ℕ → B
 
   module _ (z : t.rows ≢ 0) (c : FieldCount) (u : ℕ) (e : r ≡ out.Container c u) (room : 0 < d) (some : 0 < c.0)
       (es'' : List ℕ) (q : Step) (all : Resumed o s es' es'' u t.names (t.rows - 1) (d - 1) c.0 q) where
-    pub field_held_bad : (f : Failure) → q ≡ step.Bad f → run o a 0 (drop a.at s) ≡ failed f
+    pub field_held_bad : (f : Failure) → q ≡ step.Bad f → run o a 0 (drop a.at s) ≡ Err f
     field_held_bad f g = held-bad lead here es' d deep r one z c u e room some es'' q all f g
 
     pub field_held_end : {f : Failure} (l : ℕ) (v : Cursor) → f ≡ failure Truncated v.at → q ≡ step.End l v → 0 < l
-        → length s ≤ v.at → run o a 0 (drop a.at s) ≡ failed f
+        → length s ≤ v.at → run o a 0 (drop a.at s) ≡ Err f
     field_held_end l v h g p w = held-end lead here es' d deep r one z c u e room some es'' q all l v h g p w
 
     pub field_held_good : (v : Cursor) → q ≡ step.Good v → v.keyed ≡ 0

@@ -1,8 +1,8 @@
 -- Fields in a container or at the top: the places on the way through them, and what the recursive reader's answers mean.
-use Rattle.std.specs.Prelude.{◌≡◌, Bool, true, false, List, ℕ, ◌+◌, ◌-◌, ◌≤◌, ◌<◌, min, eqb, length, drop}
+use Rattle.std.specs.Prelude.{◌≡◌, Bool, true, false, List, ℕ, ◌+◌, ◌-◌, ◌≤◌, ◌<◌, min, eqb, length, drop, Err}
 use Rattle.format.specs.Limits.{max_rows, max_depth}
 use Rattle.format.specs.declared.error.Error.TheVariants.{InvalidUtf8}
-use Rattle.format.specs.Answer.{failed, failure}
+use Rattle.format.specs.Answer.{failure}
 use Rattle.format.specs.Place.{Place, ended}
 use Rattle.format.specs.Reading.{Options, State, run}
 use Rattle.reader.specs.declared.fields.Cursor.{Cursor}
@@ -35,6 +35,6 @@ pub record Leads (o : Options) (s es : List ℕ) (u : Cursor) (p : Place) (a : S
   pub place : next.place ≡ p
 
 abbrev pub Resumes : Options → List ℕ → List ℕ → (ℕ → Bool → Place) → State → Step → Type 0
-Resumes o s es Q a (step.Bad f) = run o a 0 (drop a.at s) ≡ failed f
+Resumes o s es Q a (step.Bad f) = run o a 0 (drop a.at s) ≡ Err f
 Resumes o s es Q a (step.End left u) = Leads o s es u (Q left (eqb u.keyed 1)) a
 Resumes o s es Q a (step.Good u) = Leads o s es u (Q 0 false) a

@@ -1,8 +1,8 @@
 -- What the item of a turn is, by the code of its header: its kind, and how it stands in full. Assumes nothing.
+use Rattle.std.specs.Prelude.{Some}
 use mathlib.Core.Path.{◌≡◌, refl, sym, ap, ◌∙◌}
 use mathlib.Core.Bool.{true, false, ◌&&◌}
 use mathlib.Core.List.{List, [], ◌++◌, append-nil}
-use mathlib.Core.Option.{some}
 use Prim.Native.Nat.{ℕ, ◌+◌, ◌-◌, ◌^◌, ◌≤◌, ◌<◌, min, suc}
 use native.Mathlib.Nat.{add-zero}
 use native.Mathlib.Omega.{arith}
@@ -49,7 +49,7 @@ module _ (h : Header) where
 -- ---- headers
 
 -- What stands in one byte stays in one byte.
-pub one_byte : (bs : List ℕ) (h : Header) → some h ≡ header_of bs → h.size ≡ 1 → 1 ≡ length (header h.code h.payload)
+pub one_byte : (bs : List ℕ) (h : Header) → Some h ≡ header_of bs → h.size ≡ 1 → 1 ≡ length (header h.code h.payload)
 unfolding shift pick
 one_byte bs h e o =
     let z : following h.code h.sz ≡ 0 = omega (arith, header-size bs h (sym e)) in

@@ -1,11 +1,11 @@
 -- One item more of a bundle that is measured, by the code of its header. Assumes nothing.
+use Rattle.std.specs.Prelude.{Option, None, Some, slice_get}
 use mathlib.Core.Path.{◌≡◌, refl, sym, ap, ◌∙◌, subst}
 use mathlib.Core.Bool.{true}
 use mathlib.Core.List.{List, [], ◌∷◌, ◌++◌, append_assoc}
-use mathlib.Core.Option.{Option, none, some}
 use Prim.Native.Nat.{ℕ, ◌+◌, ◌-◌, ◌≤◌, ◌<◌, ◌^◌}
 use native.Mathlib.Omega.{arith}
-use lib.ListN.{length, take, drop, get_or, set, get_elem?, length-set, length-append, length-drop}
+use lib.ListN.{length, take, drop, get_or, set, length-set, length-append, length-drop}
 use lib.Seq.{get_or-set_same, get_or-set_other, length-take-le}
 use Rattle.format.specs.declared.header.Header.{Header}
 use Rattle.format.specs.Header.{header, header_of}
@@ -32,7 +32,7 @@ use Rattle.rewriter.proofs.Arms.{Plain, name-is, name_part, name-text, content-l
 
 module _ {a b s : List ℕ} {side : ℕ} {zs : List Item} {u : State} (w : Bundled a b s side zs u)
     {es links to plan : List ℕ} {t : Tally} (p : Partway a b s zs u es links to plan t)
-    {h : Header} (e : some h ≡ header_of (drop t.at s)) where
+    {h : Header} (e : Some h ≡ header_of (drop t.at s)) where
   pub turned : Turn lenient s p.state u h
   turned = turn s p.reads (rw p.offset e)
 
@@ -117,7 +117,7 @@ module _ {a b s : List ℕ} {side : ℕ} {zs : List Item} {u : State} (w : Bundl
   names-count : length (names_from [] ys) ≡ t.names
   names-count = ap length (sym among) ∙ length-names p.measured.table.table
 
-  known-measured : (i : ℕ) → is_name x ≡ true → index x (names_from [] ys) ≡ some i
+  known-measured : (i : ℕ) → is_name x ≡ true → index x (names_from [] ys) ≡ Some i
       → Measured 1024 a b es links (set plan t.row i) (ys ++ (x ∷ [])) t.names (t.size + length (header 7 i))
   known-measured i n k =
       subst (λ (j : ℕ). Measured 1024 a b es links (set plan j i) (ys ++ (x ∷ [])) t.names (t.size + length (header 7 i))) p.row
@@ -126,7 +126,7 @@ module _ {a b s : List ℕ} {side : ℕ} {zs : List Item} {u : State} (w : Bundl
   -- ---- a reference
 
   module _ (hi : 7 ≤ h.code) where
-    entry : get_elem? (items_of st.entries) h.payload ≡ some x
+    entry : slice_get (items_of st.entries) h.payload ≡ Some x
     entry = items_at_lem st.entries h.payload (reference-is turned (form-reference h hi))
 
     pub reference-small : h.payload < 256
@@ -190,7 +190,7 @@ module _ {a b s : List ℕ} {side : ℕ} {zs : List Item} {u : State} (w : Bundl
 
     module _ {es' links' plan' : List ℕ} {r : Tally} (v names n : ℕ)
         (is : r ≡ tallied t (t.at + h.size + h.payload) (t.entries + 1) names n) (little : n ≤ 16393)
-        (known : index x (noted x (names_from [] ys)) ≡ some v)
+        (known : index x (noted x (names_from [] ys)) ≡ Some v)
         (measured : Measured 1024 a b es' links' plan' (ys ++ (x ∷ [])) names (t.size + n)) where
       entry-on : Onward a b s zs u es' links' (set to t.entries v) plan' t r
       entry-on =
@@ -213,7 +213,7 @@ module _ {a b s : List ℕ} {side : ℕ} {zs : List Item} {u : State} (w : Bundl
     looked_up : {o : Option ℕ} → index (name (h.code + 5) bytes) (names_in a b (take t.names es)) ≡ o → index x (names_from [] ys) ≡ o
     looked_up q = ap (λ (z : Item). index z (names_from [] ys)) named ∙ ap (index (name (h.code + 5) bytes)) (sym among) ∙ q
 
-    pub known_on : {r : Tally} (i : ℕ) → index (name (h.code + 5) bytes) (names_in a b (take t.names es)) ≡ some i → i < 256
+    pub known_on : {r : Tally} (i : ℕ) → index (name (h.code + 5) bytes) (names_in a b (take t.names es)) ≡ Some i → i < 256
         → r ≡ tallied t (t.at + h.size + h.payload) (t.entries + 1) t.names (length (header 7 i))
         → Onward a b s zs u es links (set to t.entries i) (set plan t.row i) t r
     known_on i q l is =
@@ -229,7 +229,7 @@ module _ {a b s : List ℕ} {side : ℕ} {zs : List Item} {u : State} (w : Bundl
         let k = looked_up g.new in
         let most = header-most h.code h.payload (omega (arith, content-within f, w.short)) in
         entry-on t.names (t.names + 1) _ is (omega (arith, most, content-within f, w.short))
-        (rw (noted-fresh x (names_from [] ys) (name-is turned f lo) k) (index-last x (names_from [] ys) k ∙ ap some names-count))
+        (rw (noted-fresh x (names_from [] ys) (name-is turned f lo) k) (index-last x (names_from [] ys) k ∙ ap Some names-count))
         (measure_fresh p.measured x lt es' links' (set plan t.row 256) g.entry _ (name-is turned f lo) k
         (name-text turned f lo) (content-length turned f) g.chained g.stored (g.named ∙ sym named)
         (length-set plan t.row 256 ∙ p.measured.plan_size)
@@ -238,7 +238,7 @@ module _ {a b s : List ℕ} {side : ℕ} {zs : List Item} {u : State} (w : Bundl
         (get_or-set_same plan t.row 256 0 (omega (arith, room, p.measured.plan_size)))))
 
     pub full-over : {es' links' to' plan' : List ℕ} {r : Tally}
-        → index (name (h.code + 5) bytes) (names_in a b (take t.names es)) ≡ none → 256 ≤ t.names → r.at ≡ length s
+        → index (name (h.code + 5) bytes) (names_in a b (take t.names es)) ≡ None → 256 ≤ t.names → r.at ≡ length s
         → r.names ≡ 257
         → Onward a b s zs u es' links' to' plan' t r
     full-over q l ends is =
@@ -266,7 +266,7 @@ pub record NameHere (a b s : List ℕ) (side : ℕ) (t : Tally) (h : Header) : T
       (take (t.at + h.size + h.payload - (t.at + h.size)) (drop (t.at + h.size) s))
 
 pub name_here : {a b s : List ℕ} {side : ℕ} {es links to plan : List ℕ} {t : Tally} {h : Header}
-    → Here a b s side es links to plan t × (some h ≡ header_of (drop t.at s)) × (5 ≤ h.code) × (h.code ≤ 6)
+    → Here a b s side es links to plan t × (Some h ≡ header_of (drop t.at s)) × (5 ≤ h.code) × (h.code ≤ 6)
     → NameHere a b s side t h
 name_here {t} {h} (k, e, lo, hi) =
     let f = form-text h (omega arith) hi in

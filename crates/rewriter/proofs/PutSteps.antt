@@ -1,8 +1,8 @@
 -- One item more of a bundle that is written as it was planned. Assumes nothing.
+use Rattle.std.specs.Prelude.{Some}
 use mathlib.Core.Path.{◌≡◌, refl, sym, ap, ◌∙◌, subst}
 use mathlib.Core.Bool.{true, false, ◌&&◌}
 use mathlib.Core.List.{List, [], ◌∷◌, ◌++◌, append_assoc}
-use mathlib.Core.Option.{some}
 use Prim.Native.Nat.{ℕ, ◌+◌, ◌-◌, ◌≤◌, ◌<◌}
 use native.Mathlib.Nat.{le_trans}
 use native.Mathlib.Omega.{arith}
@@ -39,7 +39,7 @@ use Rattle.rewriter.proofs.Rewritten.{rewritten-number, rewritten-reference, rew
 
 module _ {s : List ℕ} {zs ws : List Item} {u : State} {plan old : List ℕ} (g : Planning s zs ws u plan (length old))
     {new : List ℕ} {w : Spot} (p : Putting s zs u old new w)
-    {h : Header} (e : some h ≡ header_of (drop w.at s)) where
+    {h : Header} (e : Some h ≡ header_of (drop w.at s)) where
   turned : Turn lenient s p.state u h
   turned = turn s p.reads (rw p.offset e)
 
@@ -79,7 +79,7 @@ module _ {s : List ℕ} {zs ws : List Item} {u : State} {plan old : List ℕ} (g
   -- ---- the item by its header
 
   module _ (hi : 7 ≤ h.code) where
-    entry : (is_name x ≡ true) × (index x (names_from [] ys) ≡ some (get_or p.to h.payload 0))
+    entry : (is_name x ≡ true) × (index x (names_from [] ys) ≡ Some (get_or p.to h.payload 0))
     entry = p.mapped.at h.payload x (items_at_lem st.entries h.payload (reference-is turned (form-reference h hi)))
 
     -- an entry has an index

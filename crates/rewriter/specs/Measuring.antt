@@ -1,9 +1,6 @@
 -- A bundle measured item by item, after other items: where each of its entries stands among the names so far, and what is known on the way.
-use Rattle.std.specs.Prelude.{ℕ, ◌+◌, ◌*◌, ◌≤◌, ◌<◌, ◌≡◌, true, List, [], ◌++◌, length, drop, get_or}
-use Rattle.std.proofs.Math.Option.{some}
-use Rattle.std.proofs.Math.ListN.{get_elem?}
+use Rattle.std.specs.Prelude.{ℕ, ◌+◌, ◌*◌, ◌≤◌, ◌<◌, ◌≡◌, true, List, [], ◌++◌, length, drop, get_or, Some, slice_get, Ok}
 use Rattle.format.specs.Limits.{max_bytes, max_entries, max_item, max_rows}
-use Rattle.format.specs.Answer.{good}
 use Rattle.format.specs.Item.{Item, is_name}
 use Rattle.format.specs.Names.{index, names_from}
 use Rattle.format.specs.Reading.{State, items_of, lenient, reading, run}
@@ -17,7 +14,7 @@ tallied t at entries names n = record { at = at; entries = entries; row = t.row 
 
 -- Entries of a bundle are names, and `to` has their indices among the names so far.
 pub record Mapped (olds : List Item) (to : List ℕ) (names : List Item) : Type 0 where
-  pub at : (k : ℕ) (x : Item) → get_elem? olds k ≡ some x → (is_name x ≡ true) × (index x names ≡ some (get_or to k 0))
+  pub at : (k : ℕ) (x : Item) → slice_get olds k ≡ Some x → (is_name x ≡ true) × (index x names ≡ Some (get_or to k 0))
 
 -- The bundle s, which is one of the slices a and b, reads as u. It comes after the items zs, and there are rows for all.
 pub record Bundled (a b s : List ℕ) (side : ℕ) (zs : List Item) (u : State) : Type 0 where
@@ -30,7 +27,7 @@ pub record Bundled (a b s : List ℕ) (side : ℕ) (zs : List Item) (u : State) 
 pub record Partway (a b s : List ℕ) (zs : List Item) (u : State) (es links to plan : List ℕ) (t : Tally) : Type 0 where
   pub state : State
   pub offset : state.at ≡ t.at
-  pub reads : run lenient state 0 (drop state.at s) ≡ good u
+  pub reads : run lenient state 0 (drop state.at s) ≡ Ok u
   pub entries : length state.entries ≡ t.entries
   pub few : t.entries ≤ max_entries
   pub width : length to ≡ max_entries
@@ -68,7 +65,7 @@ pub record Tallied (a b es links plan : List ℕ) (zs : List Item) (t : Tally) :
 -- The items zs are measured, and the bundle s comes next.
 pub record Begun (a b s : List ℕ) (side : ℕ) (zs : List Item) (u : State) (es links plan : List ℕ) (t : Tally) : Type 0 where
   pub bundled : Bundled a b s side zs u
-  pub reads : reading lenient s ≡ good u
+  pub reads : reading lenient s ≡ Ok u
   pub before : Tallied a b es links plan zs t
 
 pub record Ready (a b s : List ℕ) (side : ℕ) (es links plan : List ℕ) (t : Tally) : Type 0 where

@@ -1,7 +1,6 @@
 -- A bundle written item by item, after other items, as it was planned.
-use Rattle.std.specs.Prelude.{ℕ, ◌≤◌, ◌<◌, ◌≡◌, List, [], ◌++◌, length, drop}
+use Rattle.std.specs.Prelude.{ℕ, ◌≤◌, ◌<◌, ◌≡◌, List, [], ◌++◌, length, drop, Ok}
 use Rattle.format.specs.Limits.{max_bytes, max_entries, max_rows}
-use Rattle.format.specs.Answer.{good}
 use Rattle.format.specs.Item.{Item}
 use Rattle.format.specs.Names.{names_from}
 use Rattle.format.specs.Reading.{State, items_of, lenient, reading, run}
@@ -14,7 +13,7 @@ use Rattle.rewriter.specs.Measuring.{Mapped}
 -- The bundle s reads as u. The items zs come before it and ws after it; all are planned, and fit the buffer.
 pub record Planning (s : List ℕ) (zs ws : List Item) (u : State) (plan : List ℕ) (capacity : ℕ) : Type 0 where
   pub short : length s ≤ max_bytes
-  pub reads : reading lenient s ≡ good u
+  pub reads : reading lenient s ≡ Ok u
   pub size : length plan ≡ max_rows
   pub planned : Planned plan ((zs ++ items_of u.found) ++ ws)
   pub few : length (names_from [] ((zs ++ items_of u.found) ++ ws)) ≤ max_entries
@@ -29,7 +28,7 @@ pub record Put (zs : List Item) (old new : List ℕ) (w : Spot) : Type 0 where
 pub record Putting (s : List ℕ) (zs : List Item) (u : State) (old new : List ℕ) (w : Spot) : Type 0 where
   pub state : State
   pub offset : state.at ≡ w.at
-  pub reads : run lenient state 0 (drop state.at s) ≡ good u
+  pub reads : run lenient state 0 (drop state.at s) ≡ Ok u
   -- its entries are among the names so far
   pub to : List ℕ
   pub width : length to ≡ max_entries

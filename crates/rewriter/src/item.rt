@@ -1,6 +1,5 @@
 // What the header of an item in a bundle that reads says of it.
-ghost use Rattle.std.specs.Prelude.{◌≡◌, ◌&&◌, List, ℕ, ◌≤◌, leb, ltb, eqb, length};
-ghost use Rattle.std.proofs.Math.Option.{some};
+ghost use Rattle.std.specs.Prelude.{◌≡◌, ◌&&◌, List, ℕ, ◌≤◌, leb, ltb, eqb, length, Some};
 ghost use Rattle.format.specs.Code as Code;
 ghost use Rattle.format.specs.Limits.{fixed_sizes, max_header};
 ghost use Rattle.format.specs.Header.{header, header_of};
@@ -30,7 +29,7 @@ pub fn is_fixed(code: u8, sz: u8) -> bool
 
 // The length of the shortest header in place of one that was read: one byte stays one byte.
 pub fn shortest_len(h: Header) -> usize
-    requires { (bs : List ℕ) × (some h ≡ header_of bs) }
+    requires { (bs : List ℕ) × (Some h ≡ header_of bs) }
     ensures { (result ≡ length (header h.code h.payload)) × (result ≤ max_header) }
 {
     let size = h.size;

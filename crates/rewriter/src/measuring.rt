@@ -1,8 +1,7 @@
 // The first pass over a bundle: its canonical length after what comes before it, and how each name is to be written.
 // It goes by headers. By the rows of `walk::next`, where a reference has lost its index, canonicalizing took 1.24 to
 // 1.84 times as long (five corpora).
-ghost use Rattle.std.specs.Prelude.{◌≡◌, List, ◌+◌, ◌≤◌, ◌<◌, ◌^◌, length, drop, get_or, set};
-ghost use Rattle.std.proofs.Math.Option.{some};
+ghost use Rattle.std.specs.Prelude.{◌≡◌, List, ◌+◌, ◌≤◌, ◌<◌, ◌^◌, length, drop, get_or, set, Some};
 ghost use Rattle.format.specs.Code as Code;
 ghost use Rattle.format.specs.Limits.{max_bytes, max_entries, max_header, max_item, max_rows};
 ghost use Rattle.format.specs.Header.{header, header_of};
@@ -128,7 +127,7 @@ fn name<'a>(
     h: Header,
 ) -> Tally
     requires { Here first.now second.now s.now side entries.old links.old to.old plan.old t
-        × (some h ≡ header_of (drop t.at s.now)) × (Code.symbol ≤ h.code) × (h.code ≤ Code.key) }
+        × (Some h ≡ header_of (drop t.at s.now)) × (Code.symbol ≤ h.code) × (h.code ≤ Code.key) }
     ensures { (zs : List Item) (u : State) → Bundled first.now second.now s.now side zs u
         → Partway first.now second.now s.now zs u entries.old
         links.old to.old plan.old t
@@ -170,7 +169,7 @@ fn headed<'a>(
     h: Header,
 ) -> Tally
     requires { Here first.now second.now s.now side entries.old links.old to.old plan.old t
-        × (some h ≡ header_of (drop t.at s.now)) }
+        × (Some h ≡ header_of (drop t.at s.now)) }
     ensures { (zs : List Item) (u : State) → Bundled first.now second.now s.now side zs u
         → Partway first.now second.now s.now zs u entries.old
         links.old to.old plan.old t

@@ -1,8 +1,7 @@
 // The second pass over a bundle: each item in its canonical form, at the start of what is left of the buffer.
 // It goes by headers. By the rows of `walk::next`, so that each item is told apart twice, canonicalizing took 1.11 to
 // 1.24 times as long (five corpora).
-ghost use Rattle.std.specs.Prelude.{◌≡◌, List, ◌++◌, ℕ, ◌+◌, ◌≤◌, ◌<◌, length, drop};
-ghost use Rattle.std.proofs.Math.Option.{some};
+ghost use Rattle.std.specs.Prelude.{◌≡◌, List, ◌++◌, ℕ, ◌+◌, ◌≤◌, ◌<◌, length, drop, Some};
 ghost use Rattle.format.specs.Limits.{max_bytes};
 ghost use Rattle.format.specs.Header.{header_of};
 ghost use Rattle.format.specs.Item.{Item};
@@ -75,7 +74,7 @@ fn put_item(out: &mut [u8], s: &[u8], refer: u16, next: usize, h: Header) -> Ste
 
 // The item of a header, at an offset of the buffer.
 fn put_next(out: &mut [u8], s: &[u8], plan: &[u16; Row::MAX_COUNT], w: Spot, h: Header) -> Spot
-    requires { Here s.now plan.now out.old w × (some h ≡ header_of (drop w.at s.now)) }
+    requires { Here s.now plan.now out.old w × (Some h ≡ header_of (drop w.at s.now)) }
     ensures { (zs ws : List Item) (u : State) (old : List ℕ)
         → Planning s.now zs ws u plan.now (length old)
         → Putting s.now zs u old out.old w

@@ -1,9 +1,9 @@
 -- One row judged: which rule refuses it, and what is known after it. Assumes nothing.
+use Rattle.std.specs.Prelude.{Option, None, Some, Err}
 use mathlib.Core.Path.{◌≡◌, refl, ap, sym, subst, ◌∙◌}
 use mathlib.Core.Logic.{◌≢◌}
 use mathlib.Core.Bool.{true, false, not, ◌&&◌}
 use mathlib.Core.List.{List, [], ◌∷◌, ◌++◌, append_assoc}
-use mathlib.Core.Option.{Option, none, some}
 use Prim.Native.Nat.{ℕ, ◌+◌, ◌^◌, ◌≤◌, ◌<◌}
 use native.Mathlib.Numerals.{add-one}
 use native.Mathlib.Omega.{arith}
@@ -16,7 +16,7 @@ use Rattle.format.specs.declared.error.Error.TheVariants.{InvalidRow, InvalidUtf
 use Rattle.format.specs.Choice.{pick}
 use Rattle.format.specs.Error.{code_of}
 use Rattle.format.specs.Kind as Kind
-use Rattle.format.specs.Answer.{failed, failure, failure_beside, rule, first, unless, then}
+use Rattle.format.specs.Answer.{failure, failure_beside, rule, first, unless, then}
 use Rattle.format.specs.Utf8.{bad_at, utf8}
 use Rattle.format.specs.Item.{Item, is_text, is_name, is_key, is_container}
 use Rattle.format.specs.Canonical.{full}
@@ -42,23 +42,23 @@ use Rattle.encoder.proofs.MeasureLaws.{names_more, measure_plain}
 
 -- What rule 3 gives, with a row beside.
 abbrev pub bad_text : List ℕ → Row → ℕ → Option Failure
-bad_text text r row = some (failure_beside InvalidUtf8 (r.start + bad_at (content_of text r)) row)
+bad_text text r row = Some (failure_beside InvalidUtf8 (r.start + bad_at (content_of text r)) row)
 
 module _ (text : List ℕ) (p : Progress) (r : Row) where
   abbrev x : Item
   x = item_at text r
 
-  pub rule_9 : is_bad text r ≡ true → first (row_rules text p r) ≡ some (failure InvalidRow p.row)
+  pub rule_9 : is_bad text r ≡ true → first (row_rules text p r) ≡ Some (failure InvalidRow p.row)
   unfolding row_rules first rule pick
   rule_9 h = rw h
 
   module _ (fine : is_bad text r ≡ false) where
-    pub rule_5 : key_after_key p.place (item_at text r) ≡ true → first (row_rules text p r) ≡ some (failure UnexpectedKey p.row)
+    pub rule_5 : key_after_key p.place (item_at text r) ≡ true → first (row_rules text p r) ≡ Some (failure UnexpectedKey p.row)
     unfolding row_rules first rule pick
     rule_5 h = rw (fine, h)
 
     module _ (keys : key_after_key p.place (item_at text r) ≡ false) where
-      pub rule_6 : is_too_deep p.place (item_at text r) ≡ true → first (row_rules text p r) ≡ some (failure TooDeep p.row)
+      pub rule_6 : is_too_deep p.place (item_at text r) ≡ true → first (row_rules text p r) ≡ Some (failure TooDeep p.row)
       unfolding row_rules first rule pick
       rule_6 h = rw (fine, keys, h)
 
@@ -70,11 +70,11 @@ module _ (text : List ℕ) (p : Progress) (r : Row) where
 
         module _ (texts : is_text (item_at text r) && not (utf8 (item_at text r).content) ≡ false) where
           pub rule_8 : max_entries < length (noted (item_at text r) p.names)
-              → first (row_rules text p r) ≡ some (failure TooManyEntries p.row)
+              → first (row_rules text p r) ≡ Some (failure TooManyEntries p.row)
           unfolding row_rules first rule pick with_item
           rule_8 h = rw (fine, keys, flat, texts, ltb_yes h)
 
-          pub rule-none : length (noted (item_at text r) p.names) ≤ max_entries → first (row_rules text p r) ≡ none
+          pub rule-none : length (noted (item_at text r) p.names) ≤ max_entries → first (row_rules text p r) ≡ None
           unfolding row_rules first rule pick with_item
           rule-none h = rw (fine, keys, flat, texts, ltb_no h)
 
@@ -102,11 +102,11 @@ unfolding failure_in refused pick
 at_size s size = refl
 
 module _ (text : List ℕ) (p : Progress) (r : Row) where
-  judged_bad : (f : Failure) → first (row_rules text p r) ≡ some f → (rest : List Row) → judge text p (r ∷ rest) ≡ failed f
+  judged_bad : (f : Failure) → first (row_rules text p r) ≡ Some f → (rest : List Row) → judge text p (r ∷ rest) ≡ Err f
   unfolding judge then unless
   judged_bad f q rest = rw q
 
-  module _ (e : first (row_rules text p r) ≡ none) where
+  module _ (e : first (row_rules text p r) ≡ None) where
     judged_good : (rest : List Row) → judge text p (r ∷ rest) ≡ judge text (with_item p (item_at text r)) rest
     unfolding judge then unless
     judged_good rest = rw e
@@ -118,7 +118,7 @@ module _ (text : List ℕ) (p : Progress) (r : Row) where
 module _ {text es links st plan : List ℕ} {xs : List Row} {s : State} (a : After text es links st plan xs s) (r : Row) where
   -- it is refused, whatever became of the tables
   refuse_at : {es' links' st' plan' : List ℕ} {e : Error} (k : RowError e) (size : ℕ) {t : State}
-      → t ≡ refused s (code_of e) size → first (row_rules text a.progress r) ≡ some (failure_in e (refused s (code_of e) size))
+      → t ≡ refused s (code_of e) size → first (row_rules text a.progress r) ≡ Some (failure_in e (refused s (code_of e) size))
       → Next text es' links' st' plan' xs r s t
   unfolding refused
   refuse_at {e = e} k size q rules =
@@ -138,10 +138,10 @@ module _ {text es links st plan : List ℕ} {xs : List Row} {s : State} (a : Aft
 
   -- at its number
   pub refuse_next : {es' links' st' plan' : List ℕ} {e : Error} (k : PlainError e) {t : State}
-      → t ≡ refused s (code_of e) s.size → first (row_rules text a.progress r) ≡ some (failure e a.progress.row)
+      → t ≡ refused s (code_of e) s.size → first (row_rules text a.progress r) ≡ Some (failure e a.progress.row)
       → Next text es' links' st' plan' xs r s t
   refuse_next {e = e} k q rules =
-      refuse_at (plain k) s.size q (rules ∙ ap some (ap (failure e) a.row ∙ sym (at_row k s s.size)))
+      refuse_at (plain k) s.size q (rules ∙ ap Some (ap (failure e) a.row ∙ sym (at_row k s s.size)))
 
   -- for a text that is not UTF-8, at an offset in the text
   pub refuse_text_next : {es' links' st' plan' part : List ℕ} {t : State} → part ≡ content_of text r
@@ -151,10 +151,10 @@ module _ {text es links st plan : List ℕ} {xs : List Row} {s : State} (a : Aft
       let at = r.start + bad_at (content_of text r) in
       refuse_at invalid_utf8 at
       (q ∙ ap (λ (bs : List ℕ). refused s (code_of InvalidUtf8) (r.start + bad_at bs)) e)
-      (rules ∙ ap (bad_text text r) a.row ∙ ap some (sym (at_size s at)))
+      (rules ∙ ap (bad_text text r) a.row ∙ ap Some (sym (at_size s at)))
 
   -- it is taken
-  pub take_next : {es' links' st' plan' : List ℕ} (t : State) → first (row_rules text a.progress r) ≡ none
+  pub take_next : {es' links' st' plan' : List ℕ} (t : State) → first (row_rules text a.progress r) ≡ None
       → t.error ≡ 0 → t.row ≡ s.row + 1 → t.end ≡ s.end → t.size ≤ s.size + max_item
       → Stands st' t.depth t.left t.keyed t.row (moved a.progress.place (item_at text r))
       → Measured plan_size text text es' links' plan' (a.progress.items ++ (item_at text r ∷ [])) t.names t.size
@@ -197,7 +197,7 @@ ready_more w n l = (w.stack, w.deep, w.top, omega (arith, w.row), omega (arith, 
 
 module _ {text es links st plan : List ℕ} {xs : List Row} {s : State} (a : After text es links st plan xs s) (r : Row) where
   pub value-next : {es' links' plan' : List ℕ} (c n : ℕ) {t : State} → t ≡ valued st s c n → s.row < max_rows → n ≤ max_item
-      → first (row_rules text a.progress r) ≡ none → is_key (item_at text r) ≡ false → is_container (item_at text r)
+      → first (row_rules text a.progress r) ≡ None → is_key (item_at text r) ≡ false → is_container (item_at text r)
       && ltb 0 r.number ≡ false
       → Measured plan_size text text es' links' plan' (a.progress.items ++ (item_at text r ∷ [])) c (s.size + n)
       → Next text es' links' st plan' xs r s t
@@ -207,7 +207,7 @@ module _ {text es links st plan : List ℕ} {xs : List Row} {s : State} (a : Aft
 
   pub named-next : {es' links' plan' : List ℕ} (c n : ℕ) {t : State} → t ≡ named_by st s r.kind c n
       → s.row < max_rows → n ≤ max_item → r.kind ≢ Kind.container
-      → first (row_rules text a.progress r) ≡ none
+      → first (row_rules text a.progress r) ≡ None
       → Measured plan_size text text es' links' plan' (a.progress.items ++ (item_at text r ∷ [])) c (s.size + n)
       → Next text es' links' st plan' xs r s t
   unfolding named_by keyed_by item_at is_key is_container
@@ -219,7 +219,7 @@ module _ {text es links st plan : List ℕ} {xs : List Row} {s : State} (a : Aft
 
   pub open_next : (n : ℕ) {st' : List ℕ} {t : State} → t ≡ opened_by s r.number n → st' ≡ set st s.depth s.left
       → s.depth < max_depth → n ≤ max_item
-      → first (row_rules text a.progress r) ≡ none → is_key (item_at text r) ≡ false → is_container (item_at text r)
+      → first (row_rules text a.progress r) ≡ None → is_key (item_at text r) ≡ false → is_container (item_at text r)
       && ltb 0 r.number ≡ true
       → Measured plan_size text text es links plan (a.progress.items ++ (item_at text r ∷ [])) s.names (s.size + n)
       → Next text es links st' plan xs r s t

@@ -1,9 +1,9 @@
 -- A row by its kind: which rules it breaks, and what it measures. Assumes nothing.
+use Rattle.std.specs.Prelude.{None, Some}
 use mathlib.Core.Path.{◌≡◌, refl, ap, sym, ◌∙◌}
 use mathlib.Core.Logic.{◌≢◌}
 use mathlib.Core.Bool.{true, false, not, ◌&&◌}
 use mathlib.Core.List.{List, [], ◌∷◌}
-use mathlib.Core.Option.{none, some}
 use Prim.Native.Nat.{ℕ, ◌+◌, ◌-◌, ◌≤◌, ◌<◌}
 use native.Mathlib.Omega.{arith}
 use lib.Dec.{eqb, ltb}
@@ -61,7 +61,7 @@ module _ {text es links st plan : List ℕ} {xs : List Row} {s : State} (a : Aft
   flat n = depth_is a r ∙ and_no_left _ (eqb_no n)
 
   pub plain-deep : r.kind ≡ Kind.container → max_depth ≤ s.depth
-      → first (row_rules text a.progress r) ≡ some (failure TooDeep a.progress.row)
+      → first (row_rules text a.progress r) ≡ Some (failure TooDeep a.progress.row)
   plain-deep e d = rule_6 text a.progress r fine (no_keys a r lo) (depth_is a r ∙ and_yes (eqb_yes e) (leb_yes d))
 
   pub plain-text : r.kind ≢ Kind.container → eqb r.kind Kind.string && not (utf8 (content_of text r)) ≡ true
@@ -70,16 +70,16 @@ module _ {text es links st plan : List ℕ} {xs : List Row} {s : State} (a : Aft
   plain-text n e = rule_3 text a.progress r fine (no_keys a r lo) (flat n) (ap (λ b. b && not (utf8 (content_of text r))) text-is ∙ e)
 
   pub plain-none : is_too_deep a.progress.place (item_at text r) ≡ false → eqb r.kind Kind.string
-      && not (utf8 (content_of text r)) ≡ false → first (row_rules text a.progress r) ≡ none
+      && not (utf8 (content_of text r)) ≡ false → first (row_rules text a.progress r) ≡ None
   unfolding item_at
   plain-none d e = rule-none text a.progress r fine (no_keys a r lo) d
       (ap (λ b. b && not (utf8 (content_of text r))) text-is ∙ e) (few-names a r lo)
 
   pub value_none : r.kind ≢ Kind.container → eqb r.kind Kind.string && not (utf8 (content_of text r)) ≡ false
-      → first (row_rules text a.progress r) ≡ none
+      → first (row_rules text a.progress r) ≡ None
   value_none n e = plain-none (flat n) e
 
-  pub container-none : r.kind ≡ Kind.container → s.depth < max_depth → first (row_rules text a.progress r) ≡ none
+  pub container-none : r.kind ≡ Kind.container → s.depth < max_depth → first (row_rules text a.progress r) ≡ None
   container-none e d = plain-none (depth_is a r ∙ and_no_right (eqb r.kind Kind.container) (leb_no d))
       (and_no_left _ (eqb_no {a = r.kind} {b = 9} (λ q. omega arith)))
 
@@ -112,7 +112,7 @@ module _ {text es links st plan : List ℕ} {xs : List Row} {s : State} (a : Aft
   is_name_lem = leb_yes name
 
   pub name-again : eqb s.keyed 1 && eqb r.kind Kind.key ≡ true
-      → first (row_rules text a.progress r) ≡ some (failure UnexpectedKey a.progress.row)
+      → first (row_rules text a.progress r) ≡ Some (failure UnexpectedKey a.progress.row)
   name-again e = rule_5 text a.progress r fine (keys_are a r ∙ e)
 
   module _ (alone : eqb s.keyed 1 && eqb r.kind Kind.key ≡ false) where
@@ -132,19 +132,19 @@ module _ {text es links st plan : List ℕ} {xs : List Row} {s : State} (a : Aft
     unfolding item_at
     good-text u = and_no_right (is_text (item_at text r)) (ap not u)
 
-    pub known-none : (i : ℕ) → index (item_at text r) (names_from [] a.progress.items) ≡ some i
-        → first (row_rules text a.progress r) ≡ none
+    pub known-none : (i : ℕ) → index (item_at text r) (names_from [] a.progress.items) ≡ Some i
+        → first (row_rules text a.progress r) ≡ None
     unfolding item_at
     known-none i e =
         rule-none text a.progress r fine (keys_are a r ∙ alone) name_flat (good-text (known-text a.measured (item_at text r) i e))
         (omega (arith, ap length (noted-known (item_at text r) a.progress.names (ap (index (item_at text r)) a.names ∙ e)), names-count a r, a.measured.table.table.few))
 
-    module _ (e : index (item_at text r) (names_from [] a.progress.items) ≡ none) (u : utf8 (content_of text r) ≡ true) where
+    module _ (e : index (item_at text r) (names_from [] a.progress.items) ≡ None) (u : utf8 (content_of text r) ≡ true) where
       more : length (noted (item_at text r) a.progress.names) ≡ s.names + 1
       more = omega (arith, ap length (noted-fresh (item_at text r) a.progress.names is_name_lem (ap (index (item_at text r)) a.names ∙ e)), length-append a.progress.names (item_at text r ∷ []), names-count a r)
 
-      pub fresh-full : max_entries ≤ s.names → first (row_rules text a.progress r) ≡ some (failure TooManyEntries a.progress.row)
+      pub fresh-full : max_entries ≤ s.names → first (row_rules text a.progress r) ≡ Some (failure TooManyEntries a.progress.row)
       fresh-full l = rule_8 text a.progress r fine (keys_are a r ∙ alone) name_flat (good-text u) (omega (arith, more))
 
-      pub fresh-none : s.names < max_entries → first (row_rules text a.progress r) ≡ none
+      pub fresh-none : s.names < max_entries → first (row_rules text a.progress r) ≡ None
       fresh-none l = rule-none text a.progress r fine (keys_are a r ∙ alone) name_flat (good-text u) (omega (arith, more))

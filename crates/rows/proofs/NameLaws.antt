@@ -1,8 +1,8 @@
 -- Names of rows: known by a guess or a search, or new. Assumes nothing.
+use Rattle.std.specs.Prelude.{Option, None, Some}
 use mathlib.Core.Path.{◌≡◌, refl, ap, sym, ◌∙◌}
 use mathlib.Core.Bool.{true, false}
 use mathlib.Core.List.{List, []}
-use mathlib.Core.Option.{Option, none, some}
 use Prim.Native.Nat.{ℕ, ◌+◌, ◌-◌, ◌^◌, ◌≤◌, ◌<◌}
 use native.Mathlib.Omega.{arith}
 use lib.ListN.{length, take, drop, set, get_or, length-set}
@@ -74,7 +74,7 @@ module _ (text : List ℕ) (r : Row) (lo : Kind.symbol ≤ r.kind) (fine : is_ba
         item_path p.there.kind_is p.there.length_is
         (rw (p.there.length_is, p.there.start_is, side_both _ text) (content_part text r fine has_content_lem))
 
-    pub guessed : index (item_at text r) (names_in text text (take count es)) ≡ some g
+    pub guessed : index (item_at text r) (names_in text text (take count es)) ≡ Some g
     guessed =
         let h : same_name (item_at text r) (name_in text text (get_or es g 0)) ≡ true = rw guessed_name (same_name_refl (item_at text r)) in
         index_some text text es count (item_at text r) (count-le ch.table) g p.known h
@@ -97,7 +97,7 @@ module _ {text es links st plan : List ℕ} {xs : List Row} {s : State} (a : Aft
       (name-is text r w.name w.fine ∙ ap (name r.kind) (sym e)) ∙ f
 
   pub known_next : {plan' : List ℕ} (i : ℕ) {t : State} → i < 2 ^ 64
-      → index (item_at text r) (names_in text text (take s.names es)) ≡ some i
+      → index (item_at text r) (names_in text text (take s.names es)) ≡ Some i
       → t ≡ named_by st s r.kind s.names (length (header Code.reference i)) → plan' ≡ set plan s.row i
       → Next text es links st plan' xs r s t
   known_next i l e et ep =
@@ -127,7 +127,7 @@ module _ {text es links st plan : List ℕ} {xs : List Row} {s : State} (a : Aft
       m : ℕ
       m = length (header (r.kind - Kind.bytes) r.number)
 
-      new-name : index (item_at text r) (names_from [] a.progress.items) ≡ none
+      new-name : index (item_at text r) (names_from [] a.progress.items) ≡ None
       new-name = among (looked_up e n.new)
 
       hc : has_content r.kind ≡ true

@@ -1,12 +1,12 @@
 -- One row judged after others: what is known after those that were taken, and what one more comes to.
-use Rattle.std.specs.Prelude.{ℕ, ◌+◌, ◌*◌, ◌≤◌, ◌<◌, ◌≡◌, false, List, [], ◌∷◌, ◌++◌, eqb, length}
+use Rattle.std.specs.Prelude.{ℕ, ◌+◌, ◌*◌, ◌≤◌, ◌<◌, ◌≡◌, false, List, [], ◌∷◌, ◌++◌, eqb, length, Err}
 use Rattle.format.specs.declared.row.Row.{Row}
 use Rattle.format.specs.declared.error.Error.{Error}
 use Rattle.format.specs.declared.failure.Failure.{Failure}
 use Rattle.format.specs.declared.error.Error.TheVariants.{InvalidRow, InvalidUtf8, TooDeep, TooManyEntries, UnexpectedKey}
 use Rattle.format.specs.Error.{code_of}
 use Rattle.format.specs.Choice.{pick}
-use Rattle.format.specs.Answer.{Answer, failed, failure, failure_beside}
+use Rattle.format.specs.Answer.{Answer, failure, failure_beside}
 use Rattle.format.specs.Limits.{max_bytes, max_rows, max_depth, max_item}
 use Rattle.format.specs.Names.{names_from}
 use Rattle.format.specs.WellFormed.{All}
@@ -37,7 +37,7 @@ pub record RefusedAs (judgement : Answer Progress) (s : State) : Type 0 where
   pub error : Error
   pub of_row : RowError error
   pub number : code_of error ≡ s.error
-  pub is : judgement ≡ failed (failure_in error s)
+  pub is : judgement ≡ Err (failure_in error s)
 
 -- The rows xs were taken, and s is the state after them.
 pub record After (text es links st plan : List ℕ) (xs : List Row) (s : State) : Type 0 where

@@ -1,7 +1,8 @@
 -- What the programs make of one envelope lies in its buffers. Assumes nothing.
+use Rattle.std.specs.Prelude.{Err, Ok}
 use Rattle.std.proofs.Common.{◌≡◌, ℕ, ◌-◌, ◌≤◌, List, length, take, drop, refl, ap, ◌∙◌, arith}
 use Rattle.format.specs.Error.{code_of}
-use Rattle.format.specs.Answer.{Answer, failed, good, then}
+use Rattle.format.specs.Answer.{Answer, then}
 use Rattle.format.specs.Joining.{canonicalizing}
 use Rattle.format.specs.Limits.{max_bytes}
 use Rattle.format.specs.Envelope.{closing, max_envelope, opening}
@@ -26,8 +27,8 @@ use Rattle.runner.specs.Program.{filter_of}
 
 tidied_used : (size : ℕ) (a : Answer (List ℕ)) → (tidy.step_of size a).used ≤ size
 unfolding tidy.step_of
-tidied_used size (failed f) = omega arith
-tidied_used size (good e) = omega arith
+tidied_used size (Err f) = omega arith
+tidied_used size (Ok e) = omega arith
 
 -- What a step takes lies in the bytes.
 pub inside : (p : Program) → Takes (filter_of p)
@@ -37,10 +38,10 @@ inside Tidy k bs = omega (arith, tidied_used (size_in (opening bs)) (tidy.tidied
 
 printed-short : (k : ℕ) (a : Answer (List ℕ)) → length (listing.printed k a) ≤ max_text
 unfolding listing.printed
-printed-short k (failed f) = envelope-short k (code_of f.error)
-printed-short k (good bs) = text-short bs k
+printed-short k (Err f) = envelope-short k (code_of f.error)
+printed-short k (Ok bs) = text-short bs k
 
-tidied-good : (a : Answer (List ℕ)) {e : List ℕ} → tidy.tidied a ≡ good e → length e ≤ max_envelope
+tidied-good : (a : Answer (List ℕ)) {e : List ℕ} → tidy.tidied a ≡ Ok e → length e ≤ max_envelope
 unfolding tidy.tidied
 tidied-good a q =
     let (b, _, q₁) = then-good a (λ b. then (canonicalizing b max_bytes) (λ c. closing c max_envelope)) q in
@@ -50,8 +51,8 @@ tidied-good a q =
 
 tidied-short : (a b : Answer (List ℕ)) → tidy.tidied a ≡ b → length (bytesIn b) ≤ max_envelope
 unfolding bytesIn
-tidied-short a (failed f) q = omega arith
-tidied-short a (good e) q = tidied-good a q
+tidied-short a (Err f) q = omega arith
+tidied-short a (Ok e) q = tidied-good a q
 
 -- The buffer takes what is made of any envelope.
 pub short : (p : Program) (k : ℕ) (a : Answer (List ℕ)) → length ((filter_of p).output k a) ≤ (filter_of p).most

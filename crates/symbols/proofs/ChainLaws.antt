@@ -1,9 +1,9 @@
 -- Entries with chains: a search along a chain finds what the search of all entries finds, and one more entry. Assumes nothing.
+use Rattle.std.specs.Prelude.{Option, None, Some}
 use mathlib.Core.Path.{◌≡◌, refl, ap, sym, ◌∙◌}
 use mathlib.Core.Logic.{◌≢◌}
 use mathlib.Core.Bool.{true, false}
 use mathlib.Core.List.{List, [], ◌∷◌}
-use mathlib.Core.Option.{Option, none, some}
 use Prim.Native.Nat.{ℕ, zero, suc, ◌+◌, ◌-◌, ◌≤◌, ◌<◌}
 use native.Mathlib.Nat.{add-zero, zero-add}
 use native.Mathlib.Omega.{arith}
@@ -23,23 +23,23 @@ use Rattle.symbols.proofs.EntryLaws.{other_key}
 
 -- ---- what is answered
 
-pub found_at : {i : ℕ} {o : Option ℕ} → o ≡ some i → At i ≡ found_of o
+pub found_at : {i : ℕ} {o : Option ℕ} → o ≡ Some i → At i ≡ found_of o
 unfolding found_of
 found_at e = rw e
 
-pub found_none : {o : Option ℕ} → o ≡ none → Nothing ≡ found_of o
+pub found_none : {o : Option ℕ} → o ≡ None → Nothing ≡ found_of o
 unfolding found_of
 found_none e = rw e
 
-pub found_some : {i : ℕ} (o : Option ℕ) → At i ≡ found_of o → o ≡ some i
+pub found_some : {i : ℕ} (o : Option ℕ) → At i ≡ found_of o → o ≡ Some i
 unfolding found_of
-found_some none e = absurd (let z : ◌≡◌ {A = ℕ} 0 1 = cc in omega arith)
-found_some (some j) e = cc
+found_some None e = absurd (let z : ◌≡◌ {A = ℕ} 0 1 = cc in omega arith)
+found_some (Some j) e = cc
 
-pub found_nothing : (o : Option ℕ) → Nothing ≡ found_of o → o ≡ none
+pub found_nothing : (o : Option ℕ) → Nothing ≡ found_of o → o ≡ None
 unfolding found_of
-found_nothing none e = refl
-found_nothing (some j) e = absurd (let z : ◌≡◌ {A = ℕ} 0 1 = cc in omega arith)
+found_nothing None e = refl
+found_nothing (Some j) e = absurd (let z : ◌≡◌ {A = ℕ} 0 1 = cc in omega arith)
 
 -- ---- names
 
@@ -55,20 +55,20 @@ same_via x a b e =
 
 module _ (a b : List ℕ) (x : Item) where
   from_some : (k : ℕ) (es : List ℕ) (i : ℕ) → i < length es → same_name x (name_in a b (get_or es i 0)) ≡ true
-      → ((j : ℕ) → j < i → same_name x (name_in a b (get_or es j 0)) ≡ false) → index_from k x (names_in a b es) ≡ some (k + i)
+      → ((j : ℕ) → j < i → same_name x (name_in a b (get_or es j 0)) ≡ false) → index_from k x (names_in a b es) ≡ Some (k + i)
   unfolding names_in index_from
   from_some k [] i l h f = absurd (omega arith)
-  from_some k (e ∷ es) zero l h f = pick_yes _ _ h ∙ ap some (sym (add-zero k))
+  from_some k (e ∷ es) zero l h f = pick_yes _ _ h ∙ ap Some (sym (add-zero k))
   from_some k (e ∷ es) (suc i) l h f =
-      pick_no _ _ (f 0 (omega arith)) ∙ from_some (k + 1) es i (omega arith) h (λ j g. f (suc j) (omega arith)) ∙ ap some (omega arith)
+      pick_no _ _ (f 0 (omega arith)) ∙ from_some (k + 1) es i (omega arith) h (λ j g. f (suc j) (omega arith)) ∙ ap Some (omega arith)
 
   from_none : (k : ℕ) (es : List ℕ) → ((j : ℕ) → j < length es → same_name x (name_in a b (get_or es j 0)) ≡ false)
-      → index_from k x (names_in a b es) ≡ none
+      → index_from k x (names_in a b es) ≡ None
   unfolding names_in index_from
   from_none k [] f = refl
   from_none k (e ∷ es) f = pick_no _ _ (f 0 (omega arith)) ∙ from_none (k + 1) es (λ j g. f (suc j) (omega arith))
 
-  none-all : (k : ℕ) (es : List ℕ) → index_from k x (names_in a b es) ≡ none → (j : ℕ) → j < length es
+  none-all : (k : ℕ) (es : List ℕ) → index_from k x (names_in a b es) ≡ None → (j : ℕ) → j < length es
       → same_name x (name_in a b (get_or es j 0)) ≡ false
   unfolding names_in index_from
   none-all k [] h j l = absurd (omega arith)
@@ -86,16 +86,16 @@ module _ (a b es : List ℕ) (count : ℕ) (x : Item) (le : count ≤ length es)
 
   pub index_some : (i : ℕ) → i < count → same_name x (name_in a b (get_or es i 0)) ≡ true
       → ((j : ℕ) → j < i → same_name x (name_in a b (get_or es j 0)) ≡ false)
-      → index x (names_in a b (take count es)) ≡ some i
+      → index x (names_in a b (take count es)) ≡ Some i
   unfolding index
   index_some i l h f =
-      from_some a b x 0 (take count es) i (rw long l) (rw (kept i l) h) (λ j g. rw (kept j (omega arith)) (f j g)) ∙ ap some (zero-add i)
+      from_some a b x 0 (take count es) i (rw long l) (rw (kept i l) h) (λ j g. rw (kept j (omega arith)) (f j g)) ∙ ap Some (zero-add i)
 
-  pub index-none : ((j : ℕ) → j < count → same_name x (name_in a b (get_or es j 0)) ≡ false) → index x (names_in a b (take count es)) ≡ none
+  pub index-none : ((j : ℕ) → j < count → same_name x (name_in a b (get_or es j 0)) ≡ false) → index x (names_in a b (take count es)) ≡ None
   unfolding index
   index-none f = from_none a b x 0 (take count es) (λ j g. let l : j < count = rw long at g in rw (kept j l) (f j l))
 
-  pub none_each : index x (names_in a b (take count es)) ≡ none → (j : ℕ) → j < count → same_name x (name_in a b (get_or es j 0)) ≡ false
+  pub none_each : index x (names_in a b (take count es)) ≡ None → (j : ℕ) → j < count → same_name x (name_in a b (get_or es j 0)) ≡ false
   unfolding index
   none_each h j l = rw (kept j l) at (none-all a b x 0 (take count es) h j (rw long l))
 
@@ -163,12 +163,12 @@ module _ {a b es links : List ℕ} {count kind key : ℕ} (content : List ℕ) (
     pub along_less : get_or links (buckets + (v - 1)) 0 < v
     along_less = omega (arith, c.next_le (v - 1) lt)
 
-    pub along_hit : same_name x (name_in a b (get_or es (v - 1) 0)) ≡ true → index x (names_in a b (take count es)) ≡ some (v - 1)
+    pub along_hit : same_name x (name_in a b (get_or es (v - 1) 0)) ≡ true → index x (names_in a b (take count es)) ≡ Some (v - 1)
     along_hit h =
         index_some a b es count x (count-le c.table) (v - 1) lt h
         (λ j l. same_via x (name_in a b (get_or es (v - 1) 0)) (name_in a b (get_or es j 0)) h ∙ c.unlike (v - 1) j lt l)
 
-  pub along_end : {v : ℕ} → Along a b es count kind key content v → v ≡ 0 → index x (names_in a b (take count es)) ≡ none
+  pub along_end : {v : ℕ} → Along a b es count kind key content v → v ≡ 0 → index x (names_in a b (take count es)) ≡ None
   along_end w e = index-none a b es count x (count-le c.table) (λ j l. w.none_from j l (omega arith))
 
 -- ---- no entry
@@ -193,7 +193,7 @@ chain_start a b es links e z =
 -- ---- one more entry
 
 module _ {a b es links : List ℕ} {count e : ℕ} (c : Chained a b es links count) (lt : count < max_entries) (ok : Sound a b e)
-    (new : index (name_in a b e) (names_in a b (take count es)) ≡ none) where
+    (new : index (name_in a b e) (names_in a b (take count es)) ≡ None) where
   old : (j : ℕ) → j < count → get_or (set es count e) j 0 ≡ get_or es j 0
   old j l = get_or-set_other es count j e 0 (λ q. omega arith)
 
@@ -294,6 +294,6 @@ module _ {a b es links : List ℕ} {count e : ℕ} (c : Chained a b es links cou
 
 -- an index fits the table
 pub index-small : {a b es links : List ℕ} {count i : ℕ} (x : Item) → Chained a b es links count
-    → index x (names_in a b (take count es)) ≡ some i → i < max_entries
+    → index x (names_in a b (take count es)) ≡ Some i → i < max_entries
 index-small {a} {b} {es} {links} {count} {i} x ch e =
     omega (arith, at_lt (names_in a b (take count es)) i (index_at x (names_in a b (take count es)) e).at, length-names ch.table, ch.table.few)

@@ -1,11 +1,11 @@
 -- The entries that packed numbers stand for: how many, one by its index, and one more. Assumes nothing.
+use Rattle.std.specs.Prelude.{None, Some, slice_get}
 use mathlib.Core.Path.{◌≡◌, refl, ap, ◌∙◌}
 use mathlib.Core.List.{List, [], ◌∷◌, ◌++◌, map}
-use mathlib.Core.Option.{none, some}
 use Prim.Native.Nat.{ℕ, zero, suc, ◌+◌, ◌≤◌, ◌<◌}
 use native.Mathlib.Numerals.{add-one}
 use native.Mathlib.Omega.{arith}
-use lib.ListN.{length, take, drop, get_or, set, get_elem?, length-map}
+use lib.ListN.{length, take, drop, get_or, set, length-map}
 use lib.Seq.{length-take-le, take-suc-set, get_or-take}
 use Rattle.format.proofs.Lists.{map-append}
 use Rattle.format.proofs.Names.{item_path}
@@ -21,20 +21,20 @@ module _ (s es : List ℕ) (names : ℕ) (size : length es ≡ 256) (few : names
   unfolding entries_of
   length-entries = length-map (take names es) (found_in s) ∙ long
 
-  pub entry-none : (i : ℕ) → names ≤ i → get_elem? (entries_of s es names) i ≡ none
+  pub entry-none : (i : ℕ) → names ≤ i → slice_get (entries_of s es names) i ≡ None
   unfolding entries_of
   entry-none i h = go (take names es) i (rw long h)
     where
-      go : (ds : List ℕ) (i : ℕ) → length ds ≤ i → get_elem? (map (found_in s) ds) i ≡ none
+      go : (ds : List ℕ) (i : ℕ) → length ds ≤ i → slice_get (map (found_in s) ds) i ≡ None
       go [] i l = refl
       go (d ∷ ds) zero l = absurd (omega arith)
       go (d ∷ ds) (suc i) l = go ds i (omega arith)
 
-  pub entry-is : (i : ℕ) → i < names → get_elem? (entries_of s es names) i ≡ some (found_in s (get_or es i 0))
+  pub entry-is : (i : ℕ) → i < names → slice_get (entries_of s es names) i ≡ Some (found_in s (get_or es i 0))
   unfolding entries_of
-  entry-is i h = go (take names es) i (rw long h) ∙ ap (λ (e : ℕ). some (found_in s e)) (get_or-take names es i 0 h)
+  entry-is i h = go (take names es) i (rw long h) ∙ ap (λ (e : ℕ). Some (found_in s e)) (get_or-take names es i 0 h)
     where
-      go : (ds : List ℕ) (i : ℕ) → i < length ds → get_elem? (map (found_in s) ds) i ≡ some (found_in s (get_or ds i 0))
+      go : (ds : List ℕ) (i : ℕ) → i < length ds → slice_get (map (found_in s) ds) i ≡ Some (found_in s (get_or ds i 0))
       go [] i l = absurd (omega arith)
       go (d ∷ ds) zero l = refl
       go (d ∷ ds) (suc i) l = go ds i (omega arith)

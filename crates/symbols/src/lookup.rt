@@ -1,6 +1,5 @@
 // A name looked up along a chain of entries with like marks, and a new name put in.
-ghost use Rattle.std.specs.Prelude.{◌≡◌, ◌+◌, ◌<◌, ◌≤◌, length, take, set};
-ghost use Rattle.std.proofs.Math.Option.{none};
+ghost use Rattle.std.specs.Prelude.{◌≡◌, ◌+◌, ◌<◌, ◌≤◌, length, take, set, None};
 ghost use Rattle.format.specs.Kind as Kind;
 ghost use Rattle.format.specs.Limits.{max_bytes, max_entries};
 ghost use Rattle.format.specs.Names.{index};
@@ -65,7 +64,7 @@ pub fn enter<'a>(
     e: u64,
 )
     requires { Chained first.now second.now entries.old links.old count × (count < max_entries) × Sound first.now second.now e
-        × (index (name_in first.now second.now e) (names_in first.now second.now (take count entries.old)) ≡ none) }
+        × (index (name_in first.now second.now e) (names_in first.now second.now (take count entries.old)) ≡ None) }
     ensures stored { entries.new ≡ set entries.old count e }
     ensures chained { Chained first.now second.now entries.new links.new (count + 1) }
 {

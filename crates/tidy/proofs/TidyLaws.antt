@@ -1,4 +1,5 @@
 -- One envelope, by what opening, canonicalizing and closing answer. Assumes nothing.
+use Rattle.std.specs.Prelude.{Err, Ok}
 use mathlib.Core.Path.{◌≡◌, refl, sym}
 use Prim.Native.Nat.{ℕ, ◌+◌, ◌≤◌}
 use mathlib.Core.List.{List}
@@ -6,10 +7,8 @@ use native.Mathlib.Omega.{arith}
 use lib.ListN.{length, take, length-take}
 use Rattle.format.specs.declared.failure.Failure.{Failure}
 use Rattle.format.specs.declared.outcome.Outcome.TheVariants.{Good}
-use Rattle.format.specs.declared.written.Written.{Written}
-use Rattle.format.specs.declared.written.Written.TheVariants.{Done, Failed}
 use Rattle.format.specs.Limits.{max_bytes}
-use Rattle.format.specs.Answer.{Answer, counted, failed, good, then, stored}
+use Rattle.format.specs.Answer.{Answer, counted, then, stored}
 use Rattle.format.specs.Written.{Writes}
 use Rattle.format.specs.Joining.{canonicalizing}
 use Rattle.format.specs.Envelope.{closing, max_envelope, opening, overhead}
@@ -26,19 +25,19 @@ use Rattle.tidy.specs.Tidied.{Closed, filter, step_of, tidied}
 stored-puts : (size : ℕ) (a : Answer (List ℕ)) (old : List ℕ) {new : List ℕ} → new ≡ stored old a
     → Puts (bytesIn a) (step_of size a).written old new
 unfolding stored bytesIn step_of
-stored-puts size (failed f) old e = (refl, e)
-stored-puts size (good bs) old e = (refl, e)
+stored-puts size (Err f) old e = (refl, e)
+stored-puts size (Ok bs) old e = (refl, e)
 
 -- By what closing answers.
 module _ (size : ℕ) (bs old : List ℕ) {new : List ℕ} where
-  pub closed-failed : {f : Failure} {r : Step} → Writes (closing bs (length old)) old (Failed f) new
-      → r ≡ step_of 0 (failed f) → Closed size bs old r new
+  pub closed-failed : {f : Failure} {r : Step} → Writes (closing bs (length old)) old (Err f) new
+      → r ≡ step_of 0 (Err f) → Closed size bs old r new
   unfolding step_of
   closed-failed h t =
       let f = (stored-failed old (closing bs (length old)) h.buffer (sym h.answer)).0 in
       record { step = rw f t; buffer = h.buffer }
 
-  pub closed_done : {n : ℕ} → Writes (closing bs (length old)) old (Done n) new
+  pub closed_done : {n : ℕ} → Writes (closing bs (length old)) old (Ok n) new
       → Closed size bs old (record { used = size; written = n; outcome = Good }) new
   unfolding step_of
   closed_done h =
@@ -47,27 +46,27 @@ module _ (size : ℕ) (bs old : List ℕ) {new : List ℕ} where
 
 module _ (k : ℕ) (bs old : List ℕ) where
   -- the envelope is refused
-  pub unopened : {f : Failure} {r : Step} → failed f ≡ counted (opening bs) → r ≡ step_of 0 (failed f) → Makes filter k bs old r old
+  pub unopened : {f : Failure} {r : Step} → Err f ≡ counted (opening bs) → r ≡ step_of 0 (Err f) → Makes filter k bs old r old
   unfolding tidied then step_of bytesIn
   unopened e t = let z = refuses bs e in record { step = rw z t; puts = rw (z, t) (refl, refl) }
 
-  module _ {n : ℕ} (b s s' : List ℕ) (fits : length s ≡ max_bytes) (q : good n ≡ counted (opening bs)) (e : b ≡ bundle_in (opening bs)) where
-    opened : (opening bs ≡ good b) × (length b ≡ n)
+  module _ {n : ℕ} (b s s' : List ℕ) (fits : length s ≡ max_bytes) (q : Ok n ≡ counted (opening bs)) (e : b ≡ bundle_in (opening bs)) where
+    opened : (opening bs ≡ Ok b) × (length b ≡ n)
     opened = rw (← e) at (opens_as bs q)
 
-    abbrev Canonicalizes : Written → Type 0
+    abbrev Canonicalizes : Answer ℕ → Type 0
     Canonicalizes r = Writes (canonicalizing b (length s)) s r s'
 
     -- the bundle is refused
-    pub unreadable : {f : Failure} {r : Step} → Canonicalizes (Failed f) → r ≡ step_of 0 (failed f) → Makes filter k bs old r old
+    pub unreadable : {f : Failure} {r : Step} → Canonicalizes (Err f) → r ≡ step_of 0 (Err f) → Makes filter k bs old r old
     unfolding tidied then step_of bytesIn
     unreadable h t =
         let z = opened.0 in
         let f = rw fits at (stored-failed s (canonicalizing b (length s)) h.buffer (sym h.answer)).0 in
         record { step = rw (z, f) t; puts = rw (z, f, t) (refl, refl) }
 
-    module _ (m : ℕ) (h : Canonicalizes (Done m)) where
-      canonical : (canonicalizing b max_bytes ≡ good (take m s')) × (length (take m s') ≡ m)
+    module _ (m : ℕ) (h : Canonicalizes (Ok m)) where
+      canonical : (canonicalizing b max_bytes ≡ Ok (take m s')) × (length (take m s') ≡ m)
       canonical = rw fits at (stored-counted s (canonicalizing b (length s)) h.buffer (sym h.answer))
 
       pub canonical-length : m ≡ length (take m s')

@@ -1,7 +1,6 @@
 // One envelope, copied with its bundle in the canonical encoding.
-ghost use Rattle.std.specs.Prelude.{◌≡◌, ℕ, ◌≤◌, length};
+ghost use Rattle.std.specs.Prelude.{◌≡◌, ℕ, ◌≤◌, length, Err};
 ghost use Rattle.format.specs.Limits.{max_bytes};
-ghost use Rattle.format.specs.Answer.{failed};
 ghost use Rattle.format.specs.Envelope.{max_envelope};
 ghost use Rattle.stream.specs.Run.{Makes};
 ghost use Rattle.tidy.specs.Tidied.{Closed, filter, step_of};

@@ -1,4 +1,5 @@
 -- Runs of ASCII, byte by byte, and what one says of UTF-8 and of the local rule. Assumes nothing.
+use Rattle.std.specs.Prelude.{is_none}
 use mathlib.Core.Path.{◌≡◌, refl, sym, ◌∙◌}
 use mathlib.Core.Bool.{Bool, true, false, ◌&&◌}
 use mathlib.Core.List.{List, [], ◌∷◌}
@@ -9,7 +10,7 @@ use lib.ListN.{length, drop, get_or}
 use lib.Dec.{ltb}
 use borrow.Author.Tests.{ltb-true}
 use Rattle.format.specs.Choice.{pick}
-use Rattle.format.specs.Utf8.{is_none, leads, stop, stop_after, utf8}
+use Rattle.format.specs.Utf8.{leads, stop, stop_after, utf8}
 use Rattle.format.proofs.Utf8.{due_after, fits, good-step}
 use Rattle.format.proofs.Tests.{clash, leb_yes, leb_no}
 use Rattle.utf8.specs.Local.{due, passes, passes_at, Passing, Ascii}
@@ -26,7 +27,7 @@ unfolding leads pick
 ascii-leads b h = rw (leb_yes {a = b} {b = 0x7f} (omega arith))
 
 good_from_lem : (i : ℕ) (s : List ℕ) → Ascii s 0 (length s) → is_none (stop_after 0 i s) ≡ true
-unfolding stop_after is_none fits due_after
+unfolding stop_after fits due_after
 good_from_lem i [] f = refl
 good_from_lem i (b ∷ bs) f =
     good-step 0 b i bs ∙ rw (ascii-leads b (f 0 (omega arith) (omega arith)))

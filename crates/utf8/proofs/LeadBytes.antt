@@ -1,9 +1,9 @@
 -- What a byte leads, and the bytes of a text one by one, with a count of the continuation bytes that are due. Assumes nothing.
+use Rattle.std.specs.Prelude.{None, Some}
 use mathlib.Core.Path.{◌≡◌, refl, sym, ap, ◌∙◌}
 use mathlib.Core.Logic.{⊎_elim, ◌≢◌}
 use mathlib.Core.Bool.{Bool, true, false, ◌&&◌}
 use mathlib.Core.List.{List, ◌∷◌}
-use mathlib.Core.Option.{none, some}
 use Prim.Native.Nat.{ℕ, zero, suc, ◌+◌, ◌-◌, ◌≤◌, ◌<◌}
 use native.Mathlib.Nat.{eq-or-lt_of_le, le_of_suc-le-suc}
 use native.Mathlib.Numerals.{add-one}
@@ -107,7 +107,7 @@ module _ (s : List ℕ) (i : ℕ) (h : i < length s) where
     unfolding fits due_after
     lead n = rw (z, q) (here 0 ∙ stop-on 0 b i _ (few b (λ e. n (q ∙ e))))
 
-    pub no_lead : r ≡ 4 → stop_after k i (drop i s) ≡ some i
+    pub no_lead : r ≡ 4 → stop_after k i (drop i s) ≡ Some i
     unfolding fits
     no_lead e = rw z (here 0 ∙ stop_here 0 b i _ (rw (sym q ∙ e)))
 
@@ -120,7 +120,7 @@ module _ (s : List ℕ) (i : ℕ) (h : i < length s) where
       let e : suc k - 1 ≡ k = omega arith in
       here (suc k) ∙ rw e (stop-on (suc k) b i _ (and_yes (leb_yes {a = 0x80} {b = b} l) (leb_yes {a = b} {b = 0xbf} u)))
 
-  pub no_tail : (k : ℕ) → k ≢ 0 → (0x80 ≤ get_or s i 0 → 0xbf < get_or s i 0) → stop_after k i (drop i s) ≡ some i
+  pub no_tail : (k : ℕ) → k ≢ 0 → (0x80 ≤ get_or s i 0 → 0xbf < get_or s i 0) → stop_after k i (drop i s) ≡ Some i
   unfolding fits within
   no_tail zero n f = absurd (n refl)
   no_tail (suc k) n f =
@@ -131,11 +131,11 @@ module _ (s : List ℕ) (i : ℕ) (h : i < length s) where
 -- ---- no byte is left
 
 module _ (s : List ℕ) (i : ℕ) (h : length s ≤ i) where
-  pub all_done : (k : ℕ) → k ≡ 0 → stop_after k i (drop i s) ≡ none
+  pub all_done : (k : ℕ) → k ≡ 0 → stop_after k i (drop i s) ≡ None
   unfolding stop_after
   all_done k z = rw (z, drop_of_length-le s h)
 
-  pub too_early : (k : ℕ) → k ≢ 0 → stop_after k i (drop i s) ≡ some i
+  pub too_early : (k : ℕ) → k ≢ 0 → stop_after k i (drop i s) ≡ Some i
   unfolding stop_after
   too_early zero n = absurd (n refl)
   too_early (suc k) n = rw (drop_of_length-le s h)

@@ -1,4 +1,5 @@
 -- The local rule decides UTF-8: each byte passes by the three before it, and none is due at the end. Assumes nothing.
+use Rattle.std.specs.Prelude.{is_none}
 use mathlib.Core.Path.{◌≡◌, refl, sym, ap, ◌∙◌}
 use mathlib.Core.Bool.{Bool, true, false, not, ◌&&◌, ◌||◌, and_assoc, and-false, or-false}
 use mathlib.Core.List.{List, [], ◌∷◌}
@@ -7,7 +8,7 @@ use native.Mathlib.Omega.{arith}
 use lib.Dec.{leb}
 use lib.ListN.{length, drop, get_or, drop_of_length-le}
 use Rattle.format.specs.Choice.{pick}
-use Rattle.format.specs.Utf8.{is_none, stop, stop_after, utf8, within}
+use Rattle.format.specs.Utf8.{stop, stop_after, utf8, within}
 use Rattle.format.proofs.Tests.{and-true, cases, clash, leb_no, leb-true, leb-false, or-false as neither}
 use Rattle.format.proofs.Utf8.{due_after, fits, good-step}
 use Rattle.utf8.specs.Local.{due, due_count, passes, passes_at, Passing, good_after, good_from, Checked}
@@ -84,7 +85,7 @@ module _ (p3 p2 p1 b i : ℕ) (bs : List ℕ) where
   step = cases (due p3 p2 p1) step-due step-none
 
   end : good_after (due_count p3 p2 p1) i [] ≡ not (due p3 p2 p1)
-  unfolding stop_after is_none
+  unfolding stop_after
   end = cases (due p3 p2 p1) (λ e. rw (count-due e, e)) (λ e. rw (count_none e, e))
 
 -- ---- bytes by position

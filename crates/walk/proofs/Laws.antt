@@ -1,13 +1,12 @@
 -- The law of the walk. Assumes nothing.
+use Rattle.std.specs.Prelude.{Some, slice_get, Ok}
 use mathlib.Core.Path.{◌≡◌, refl, sym, ap, ◌∙◌}
 use mathlib.Core.Logic.{◌↔◌}
 use mathlib.Core.List.{List, [], ◌∷◌, ◌++◌, map, append_assoc}
-use mathlib.Core.Option.{some}
 use Prim.Native.Nat.{ℕ, ◌+◌, ◌≤◌, ◌<◌}
 use native.Mathlib.Omega.{arith}
-use lib.ListN.{length, get_elem?, length-append}
+use lib.ListN.{length, length-append}
 use Rattle.format.specs.Limits.{max_entries}
-use Rattle.format.specs.Answer.{good}
 use Rattle.format.specs.Reading.{Found, Options, State, reading, start}
 use Rattle.format.specs.Rows.{row_of}
 use Rattle.format.proofs.Tests.{order}
@@ -19,18 +18,18 @@ use Rattle.walk.specs.declared.Walked.{Walked}
 use Rattle.walk.specs.Walking.{begin, Walks, Onward}
 use Rattle.walk.specs.Laws.{Calls, Called, WalkLaw, none, more}
 
-row_at : (xs ys : List Found) (x : Found) → get_elem? (map row_of (xs ++ (x ∷ ys))) (length xs) ≡ some (row_of x)
+row_at : (xs ys : List Found) (x : Found) → slice_get (map row_of (xs ++ (x ∷ ys))) (length xs) ≡ Some (row_of x)
 row_at [] ys x = refl
 row_at (y ∷ xs) ys x = row_at xs ys x
 
 module _ {o : Options} {bs : List ℕ} {u : State} where
   next_row : {s : State} {table : List ℕ} {w r : Walked} → Onward o bs u s table w r
-      → get_elem? (map row_of u.found) (length s.found) ≡ some r.row
+      → slice_get (map row_of u.found) (length s.found) ≡ Some r.row
   next_row {s} q =
       let (xs, e, _) = found_first o bs q.next q.walks.reads in
       let f : u.found ≡ s.found ++ (q.x ∷ xs) = e ∙ ap (λ (l : List Found). l ++ xs) q.found
       ∙ append_assoc s.found (q.x ∷ []) xs in
-      ap (λ (l : List Found). get_elem? (map row_of l) (length s.found)) f ∙ row_at s.found xs q.x ∙ ap some (sym q.row)
+      ap (λ (l : List Found). slice_get (map row_of l) (length s.found)) f ∙ row_at s.found xs q.x ∙ ap Some (sym q.row)
 
   module _ {s : State} {table : List ℕ} {w : Walked} (p : Walks o bs u s table w) where
     at-end : length bs ≤ w.at → (s ≡ u) × (w.at ≡ length bs)
@@ -48,7 +47,7 @@ module _ {o : Options} {bs : List ℕ} {u : State} where
     at_last : length s.found ≡ length u.found → w.at ≡ length bs
     at_last e = order (length bs) w.at (λ l. (at-end l).1) (λ l. let k = still_left.0 l in absurd (omega arith))
 
-pub walk_law : (o : Options) (bs : List ℕ) {u : State} → reading o bs ≡ good u → WalkLaw o bs u
+pub walk_law : (o : Options) (bs : List ℕ) {u : State} → reading o bs ≡ Ok u → WalkLaw o bs u
 unfolding start entries_of
 walk_law o bs {u} r = record { first = first; row = next_row; left = still_left; last = at-end; calls = calls }
   where

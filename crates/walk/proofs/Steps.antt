@@ -1,12 +1,12 @@
 -- One item more of a bundle that reads, by the form of its header: its row, where it ends, and the table after it. Assumes nothing.
+use Rattle.std.specs.Prelude.{None, Some, slice_get}
 use mathlib.Core.Path.{◌≡◌, refl, sym, ap, ap₂, ◌∙◌, subst}
 use mathlib.Core.Bool.{Bool, true, false}
 use mathlib.Core.List.{List, [], ◌∷◌, ◌++◌}
-use mathlib.Core.Option.{none, some}
 use Prim.Native.Nat.{ℕ, ◌+◌, ◌≤◌, ◌<◌}
 use native.Mathlib.Omega.{arith}
 use lib.Dec.{leb}
-use lib.ListN.{length, drop, get_or, set, get_elem?, length-drop, length-set}
+use lib.ListN.{length, drop, get_or, set, length-drop, length-set}
 use Rattle.format.specs.declared.header.Header.{Header}
 use Rattle.format.specs.declared.row.Row.{Row}
 use Rattle.format.specs.Kind as Kind
@@ -30,11 +30,11 @@ row kind number start = record { kind = kind; number = number; start = start }
 
 -- Where an item is left there is a whole header.
 pub whole {ℓ} : {X : Type ℓ} {o : Options} {bs : List ℕ} {u s : State} {table : List ℕ} {w : Walked}
-    → Walks o bs u s table w → w.at < length bs → none ≡ header_of (drop w.at bs) → X
+    → Walks o bs u s table w → w.at < length bs → None ≡ header_of (drop w.at bs) → X
 whole {o = o} {bs = bs} {s = s} p l e = never-cut o bs s p.reads (omega (arith, p.offset)) (rw p.offset at e)
 
 module _ {o : Options} {bs : List ℕ} {u s : State} {table : List ℕ} {w : Walked} (p : Walks o bs u s table w)
-    {h : Header} (e : some h ≡ header_of (drop w.at bs)) where
+    {h : Header} (e : Some h ≡ header_of (drop w.at bs)) where
   turned : Turn o bs s u h
   turned = turn bs p.reads (rw p.offset at e)
 
@@ -86,8 +86,8 @@ module _ {o : Options} {bs : List ℕ} {u s : State} {table : List ℕ} {w : Wal
   fixed_on k n ef is = flat_on ef refl (sym (ap row_of (fixed-is turned ef))) is
 
   module _ (ef : form_of h ≡ reference) where
-    at_entry : get_elem? (entries_of bs table w.entries) h.payload ≡ some turned.y
-    at_entry = subst (λ (l : List Found). get_elem? l h.payload ≡ some turned.y) p.entries (reference-is turned ef)
+    at_entry : slice_get (entries_of bs table w.entries) h.payload ≡ Some turned.y
+    at_entry = subst (λ (l : List Found). slice_get l h.payload ≡ Some turned.y) p.entries (reference-is turned ef)
 
     before : h.payload < w.entries
     before = order w.entries h.payload

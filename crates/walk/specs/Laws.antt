@@ -1,7 +1,5 @@
 -- The law of the walk: over any bundle that reads it gives the rows that reading gives, one by one. proofs/Laws proves it.
-use Rattle.std.specs.Prelude.{ℕ, ◌+◌, ◌≤◌, ◌<◌, ◌≡◌, ◌↔◌, List, map, length}
-use Rattle.std.proofs.Math.Option.{some}
-use Rattle.std.proofs.Math.ListN.{get_elem?}
+use Rattle.std.specs.Prelude.{ℕ, ◌+◌, ◌≤◌, ◌<◌, ◌≡◌, ◌↔◌, List, map, length, Some, slice_get}
 use Rattle.format.specs.Limits.{max_entries}
 use Rattle.format.specs.Reading.{Options, State, start}
 use Rattle.format.specs.Rows.{row_of}
@@ -18,7 +16,7 @@ pub record Called (o : Options) (bs : List ℕ) (u : State) (i : ℕ) (table : L
   pub s : State
   pub walks : Walks o bs u s table w
   pub count : length s.found ≡ i
-  pub row : (k : ℕ) → i ≡ k + 1 → get_elem? (map row_of u.found) k ≡ some w.row
+  pub row : (k : ℕ) → i ≡ k + 1 → slice_get (map row_of u.found) k ≡ Some w.row
   pub end : i ≡ length u.found → w.at ≡ length bs
 
 -- Of a bundle that reads as u.
@@ -27,7 +25,7 @@ pub record WalkLaw (o : Options) (bs : List ℕ) (u : State) : Type 0 where
   pub first : (table : List ℕ) → length table ≡ max_entries → Walks o bs u start table begin
   -- `next` leads from one item to the next, whose row is the next of the bundle (`Onward`);
   pub row : {s : State} {table : List ℕ} {w r : Walked} → Onward o bs u s table w r
-      → get_elem? (map row_of u.found) (length s.found) ≡ some r.row
+      → slice_get (map row_of u.found) (length s.found) ≡ Some r.row
   -- an item is left as long as a row is;
   pub left : {s : State} {table : List ℕ} {w : Walked} → Walks o bs u s table w
       → (w.at < length bs) ↔ (length s.found < length u.found)

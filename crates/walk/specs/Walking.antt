@@ -1,7 +1,6 @@
 -- The walk over a bundle: how an offset and a table stand for the state that reading has come to, and what one item more is.
-use Rattle.std.specs.Prelude.{ℕ, ◌≤◌, ◌<◌, ◌≡◌, List, [], ◌∷◌, ◌++◌, length, drop}
+use Rattle.std.specs.Prelude.{ℕ, ◌≤◌, ◌<◌, ◌≡◌, List, [], ◌∷◌, ◌++◌, length, drop, Ok}
 use Rattle.format.specs.Limits.{max_bytes, max_entries}
-use Rattle.format.specs.Answer.{good}
 use Rattle.format.specs.Reading.{Found, Options, State, item, run}
 use Rattle.format.specs.Rows.{blank, row_of}
 use Rattle.symbols.specs.Entries.{entries_of}
@@ -14,7 +13,7 @@ begin = record { at = 0; entries = 0; row = blank }
 -- Reading the bundle has come to the state s and goes on to u. The walk stands where s does, and its table has the entries of s.
 pub record Walks (o : Options) (bs : List ℕ) (u s : State) (table : List ℕ) (w : Walked) : Type 0 where
   pub short : length bs ≤ max_bytes
-  pub reads : run o s 0 (drop s.at bs) ≡ good u
+  pub reads : run o s 0 (drop s.at bs) ≡ Ok u
   pub offset : w.at ≡ s.at
   pub within : w.at ≤ length bs
   pub size : length table ≡ max_entries
@@ -24,7 +23,7 @@ pub record Walks (o : Options) (bs : List ℕ) (u s : State) (table : List ℕ) 
 -- One item more: reading comes to the state next, the row is that of the item, and the walk stands there again.
 pub record Onward (o : Options) (bs : List ℕ) (u s : State) (table : List ℕ) (w r : Walked) : Type 0 where
   pub next : State
-  pub is : item o s (drop s.at bs) ≡ good next
+  pub is : item o s (drop s.at bs) ≡ Ok next
   pub x : Found
   pub found : next.found ≡ s.found ++ (x ∷ [])
   pub row : r.row ≡ row_of x

@@ -2,8 +2,7 @@
 // entries so far. It judges nothing.
 #![tactic(auto)]
 
-ghost use Rattle.std.specs.Prelude.{◌≡◌, List, ℕ, ◌+◌, ◌≤◌, ◌<◌, drop, get_or, set};
-ghost use Rattle.std.proofs.Math.Option.{some};
+ghost use Rattle.std.specs.Prelude.{◌≡◌, List, ℕ, ◌+◌, ◌≤◌, ◌<◌, drop, get_or, set, Some};
 ghost use Rattle.format.specs.Limits.{max_bytes, max_entries};
 ghost use Rattle.format.specs.Kind as Kind;
 ghost use Rattle.format.specs.Header.{header_of};
@@ -95,8 +94,8 @@ fn referred(table: &[u64; SymbolTable::MAX_ENTRIES], index: u64) -> Row
 
 // The item of a header.
 fn headed(table: &mut [u64; SymbolTable::MAX_ENTRIES], w: Walked, h: Header) -> Walked
-    requires { (bs : List ℕ) × Left bs table.old w × (some h ≡ header_of (drop w.at bs)) }
-    ensures { (bs : List ℕ) → some h ≡ header_of (drop w.at bs) → Nexts bs table.old w table.new result }
+    requires { (bs : List ℕ) × Left bs table.old w × (Some h ≡ header_of (drop w.at bs)) }
+    ensures { (bs : List ℕ) → Some h ≡ header_of (drop w.at bs) → Nexts bs table.old w table.new result }
 {
     let next = w.at + h.size;
     let entries = w.entries;

@@ -1,8 +1,8 @@
 -- Headers and their numbers, for the loop over a payload and the answers. Assumes nothing.
+use Rattle.std.specs.Prelude.{None, Some}
 use mathlib.Core.Path.{◌≡◌, refl, ap, sym, subst, ◌∙◌}
 use mathlib.Core.Logic.{◌≢◌}
 use mathlib.Core.List.{List, [], ◌∷◌}
-use mathlib.Core.Option.{none, some}
 use Prim.Native.Nat.{ℕ, suc, ◌+◌, ◌-◌, ◌*◌, ◌/◌, ◌%◌, ◌^◌, ◌≤◌, ◌<◌}
 use native.Mathlib.Nat.{pow-suc, pow-le-pow_right}
 use native.Mathlib.Numerals.{add-one}
@@ -43,7 +43,7 @@ big_endian_one s a n e l = rw (e, drop-cons s a 0 l)
 
 -- ---- headers
 
-pub no_header : (s : List ℕ) (at : ℕ) → length s ≤ at → header_of (drop at s) ≡ none
+pub no_header : (s : List ℕ) (at : ℕ) → length s ≤ at → header_of (drop at s) ≡ None
 unfolding header_of
 no_header s at h = rw (drop_of_length-le s h)
 
@@ -52,7 +52,7 @@ module _ (s : List ℕ) (at : ℕ) (h : at < length s) where
   at_lead = ap header_of (drop-cons s at 0 h ∙ rw add-one)
 
   module _ (n : ℕ) (en : n ≡ following (get_or s at 0 / 32) (get_or s at 0 % 32)) where
-    pub cut-header : length s - (at + 1) < n → header_of (drop at s) ≡ none
+    pub cut-header : length s - (at + 1) < n → header_of (drop at s) ≡ None
     unfolding header_of
     cut-header l =
         let g : length (drop (at + 1) s) < following (get_or s at 0 / 32) (get_or s at 0 % 32) = rw (length-drop, ← en) l in
@@ -60,7 +60,7 @@ module _ (s : List ℕ) (at : ℕ) (h : at < length s) where
 
     pub whole-header : n ≤ length s - (at + 1) → (p z : ℕ)
         → p ≡ payload_of (get_or s at 0 / 32) (get_or s at 0 % 32) n (drop (at + 1) s) → z ≡ 1 + n
-        → header_of (drop at s) ≡ some (record { code = get_or s at 0 / 32; sz = get_or s at 0 % 32; payload = p; size = z })
+        → header_of (drop at s) ≡ Some (record { code = get_or s at 0 / 32; sz = get_or s at 0 % 32; payload = p; size = z })
     unfolding header_of
     whole-header l p z e ez =
         let g : following (get_or s at 0 / 32) (get_or s at 0 % 32) ≤ length (drop (at + 1) s) = rw (length-drop, ← en) l in
@@ -68,7 +68,7 @@ module _ (s : List ℕ) (at : ℕ) (h : at < length s) where
 
   -- one byte with the payload in it
   pub inline-header : get_or s at 0 / 32 ≢ 0 → get_or s at 0 % 32 ≤ max_inline
-      → header_of (drop at s) ≡ some (record { code = get_or s at 0 / 32; sz = get_or s at 0 % 32; payload = get_or s at 0 % 32; size = 1 })
+      → header_of (drop at s) ≡ Some (record { code = get_or s at 0 / 32; sz = get_or s at 0 % 32; payload = get_or s at 0 % 32; size = 1 })
   unfolding following pick
   inline-header c l =
       let n : 0 ≡ following (get_or s at 0 / 32) (get_or s at 0 % 32) = rw (ltb_no {a = max_inline} {b = get_or s at 0 % 32} l, eqb_no c) in

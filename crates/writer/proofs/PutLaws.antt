@@ -1,4 +1,5 @@
 -- Rows written one after the other as they were planned. Assumes nothing.
+use Rattle.std.specs.Prelude.{Ok}
 use mathlib.Core.Path.{◌≡◌, refl, ap, ◌∙◌}
 use mathlib.Core.Bool.{false}
 use mathlib.Core.List.{List, [], ◌∷◌, ◌++◌}
@@ -9,7 +10,7 @@ use native.Mathlib.Omega.{arith}
 use lib.ListN.{length, take, drop, get_or, length-map}
 use lib.Seq.{take-take, get_or-take, length-take-le, split_at, take-suc}
 use Rattle.format.specs.declared.row.Row.{Row}
-use Rattle.format.specs.Answer.{good, stored}
+use Rattle.format.specs.Answer.{stored}
 use Rattle.format.specs.Item.{Item}
 use Rattle.format.specs.Names.{names_from}
 use Rattle.format.specs.Canonical.{canonical, canonical_from}
@@ -87,6 +88,6 @@ put-none text rows old = (refl, refl)
 
 pub put_all : (text : List ℕ) (rows : List Row) (n i at : ℕ) (old new : List ℕ) → i ≡ n
     → Puts (canonical (items_at text (take i rows))) at old new
-    → new ≡ stored old (good (canonical (items_at text (take n rows))))
+    → new ≡ stored old (Ok (canonical (items_at text (take n rows))))
 unfolding stored
 put_all text rows n i at old new e p = rw (← e) p.1

@@ -1,4 +1,5 @@
 -- The answer of writing, case by case, and the rows that are written with it. Assumes nothing.
+use Rattle.std.specs.Prelude.{Err, Ok}
 use mathlib.Core.Path.{◌≡◌, refl, sym, ap, ◌∙◌}
 use mathlib.Core.Logic.{◌≢◌}
 use mathlib.Core.Bool.{Bool, true, false, ◌||◌}
@@ -16,7 +17,7 @@ use Rattle.format.specs.declared.error.Error.TheVariants.{OutputTooLong, TooLong
 use Rattle.format.specs.Error.{code_of}
 use Rattle.format.specs.Choice.{pick}
 use Rattle.format.specs.Limits.{max_entries, max_bytes, max_rows}
-use Rattle.format.specs.Answer.{Answer, counted, fail, failed, failure, good, stored, then}
+use Rattle.format.specs.Answer.{Answer, counted, fail, failure, stored, then}
 use Rattle.format.specs.Names.{names_from}
 use Rattle.format.specs.Place.{due}
 use Rattle.format.specs.Canonical.{canonical, canonical_from}
@@ -26,7 +27,6 @@ use Rattle.format.proofs.Tests.{cases, equal, failed-good, good_inj, leb-true, l
 use Rattle.format.proofs.Steps.{then-good}
 use Rattle.format.proofs.Fitting.{fitted-fits, fitted-good, fitted-over}
 use Rattle.rows.specs.declared.state.State.{State}
-use Rattle.format.specs.declared.written.Written.{Written}
 use Rattle.encoder.specs.Plan.{Measured}
 use Rattle.writer.specs.Putting.{Putting}
 use Rattle.rows.specs.Judging.{RowError, failure_in, invalid_row, invalid_utf8, plain, too_deep, too_many_entries, unexpected_key}
@@ -81,7 +81,7 @@ module _ {text plan : List ℕ} {rs : List Row} {s : State} (g : Passed text pla
   unfolding due
   passed-due = rw (g.after.stands.key, g.after.stands.opened, opened-length g.st s.depth s.left)
 
-  passed-ends : judge text begin rs ≡ pick (due_in s) (fail Truncated s.row) (good g.after.progress)
+  passed-ends : judge text begin rs ≡ pick (due_in s) (fail Truncated s.row) (Ok g.after.progress)
   unfolding judge
   passed-ends = rw (append-nil rs) at (g.after.run []) ∙ rw (passed-due, g.after.row)
 
@@ -105,7 +105,7 @@ module _ (rs : List Row) (text : List ℕ) (capacity : ℕ) where
     unfolding writing
     writing_judged = pick_no _ _ (ltb_no few) ∙ pick_no _ _ (ltb_no short)
 
-    writing-refused : (f : Failure) → judge text begin rs ≡ failed f → writing rs text capacity ≡ failed f
+    writing-refused : (f : Failure) → judge text begin rs ≡ Err f → writing rs text capacity ≡ Err f
     unfolding then
     writing-refused f e = writing_judged ∙ rw e
 
@@ -120,8 +120,8 @@ module _ (rs : List Row) (text : List ℕ) (capacity : ℕ) where
 
 -- ---- the answer of `decide`
 
-answers-failed : (rs : List Row) (text : List ℕ) (capacity : ℕ) (f : Failure) → writing rs text capacity ≡ failed f
-    → failed f ≡ counted (writing rs text capacity)
+answers-failed : (rs : List Row) (text : List ℕ) (capacity : ℕ) (f : Failure) → writing rs text capacity ≡ Err f
+    → Err f ≡ counted (writing rs text capacity)
 unfolding counted then
 answers-failed rs text capacity f e = rw e
 
@@ -144,7 +144,7 @@ module _ (rs : List Row) (bs plan : List ℕ) (rows text capacity : ℕ) (s : St
 
     pub answer-refused : (f : Failure) → s.error ≢ 0
         → ((e : Error) → RowError e → code_of e ≡ s.error → f ≡ failure_in e s)
-        → failed f ≡ counted (writing rs bs capacity)
+        → Err f ≡ counted (writing rs bs capacity)
     answer-refused f n h =
         let r = all_judged.refused n in
         rw (h r.error r.of_row r.number)
@@ -168,7 +168,7 @@ module _ (rs : List Row) (bs plan : List ℕ) (rows text capacity : ℕ) (s : St
       answer-over d l = answers-fail rs bs capacity OutputTooLong 0 (fits_in d
           ∙ fitted-over capacity (canonical (items_at bs rs)) (rw (← size_is) (leb-true _ _ l)))
 
-      pub answer-good : due_in s ≡ false → is_over ≡ false → good s.size ≡ counted (writing rs bs capacity)
+      pub answer-good : due_in s ≡ false → is_over ≡ false → Ok s.size ≡ counted (writing rs bs capacity)
       unfolding counted then
       answer-good d l = rw (fits_in d ∙ fitted-fits capacity (canonical (items_at bs rs)) (rw (← size_is) (ltb-false _ _ l)), size_is)
 
@@ -176,7 +176,7 @@ module _ (rs : List Row) (bs plan : List ℕ) (rows text capacity : ℕ) (s : St
 
 -- rows that pass are all taken
 judged_good : (text plan : List ℕ) (rs : List Row) (s : State) (u : Progress) → Verdict text plan rs s
-    → judge text begin rs ≡ good u → Passed text plan rs s × (u.items ≡ items_at text rs)
+    → judge text begin rs ≡ Ok u → Passed text plan rs s × (u.items ≡ items_at text rs)
 unfolding fail
 judged_good text plan rs s u v j =
     equal s.error 0
@@ -213,7 +213,7 @@ record Succeeds (text plan : List ℕ) (rs : List Row) (capacity : ℕ) (bs : Li
   bytes : bs ≡ canonical (items_at text rs)
 
 wrote : (text plan : List ℕ) (rs : List Row) (capacity : ℕ) (s : State) (bs : List ℕ)
-    → Verdict text plan (take (limit_of (length rs) (length text)) rs) s → writing rs text capacity ≡ good bs
+    → Verdict text plan (take (limit_of (length rs) (length text)) rs) s → writing rs text capacity ≡ Ok bs
     → Succeeds text plan rs capacity bs
 unfolding fail
 wrote text plan rs capacity s bs v e =
@@ -240,16 +240,16 @@ module _ (rs : List Row) (text plan out : List ℕ) (s : State)
 
   by_answer : (k : ℕ) (w : Answer (List ℕ)) → writing rs text (length out) ≡ w → k ≡ rows_in (counted w) n
       → (k ≤ length rs) × (Putting text plan (take k rs) (length out)
-      × (stored out (good (canonical (items_at text (take k rs)))) ≡ stored out w))
+      × (stored out (Ok (canonical (items_at text (take k rs)))) ≡ stored out w))
   unfolding rows_in counted then stored canonical canonical_from
-  by_answer k (failed f) h e = rw e (omega arith, (putting-none text plan rs (length out) long, refl))
-  by_answer k (good bs) h e =
+  by_answer k (Err f) h e = rw e (omega arith, (putting-none text plan rs (length out) long, refl))
+  by_answer k (Ok bs) h e =
       let w = wrote text plan rs (length out) s bs v h in
       rw (e, limit_all w.few w.short, take-length rs) (le_refl (length rs), (w.putting, rw w.bytes))
 
-  module _ (r : Written) (k : ℕ) (e : answer_of r ≡ counted (writing rs text (length out))) (ek : k ≡ rows_in (answer_of r) n) where
+  module _ (r : Answer ℕ) (k : ℕ) (e : answer_of r ≡ counted (writing rs text (length out))) (ek : k ≡ rows_in (answer_of r) n) where
     all : (k ≤ length rs) × (Putting text plan (take k rs) (length out)
-        × (stored out (good (canonical (items_at text (take k rs)))) ≡ stored out (writing rs text (length out))))
+        × (stored out (Ok (canonical (items_at text (take k rs)))) ≡ stored out (writing rs text (length out))))
     all = by_answer k (writing rs text (length out)) refl (ek ∙ ap (λ (a : Answer ℕ). rows_in a n) e)
 
     -- what `put` asks
@@ -257,5 +257,5 @@ module _ (rs : List Row) (text plan out : List ℕ) (s : State)
     put_asks = (all.0, all.1.0)
 
     -- and what it leaves
-    pub put_leaves : stored out (good (canonical (items_at text (take k rs)))) ≡ stored out (writing rs text (length out))
+    pub put_leaves : stored out (Ok (canonical (items_at text (take k rs)))) ≡ stored out (writing rs text (length out))
     put_leaves = all.1.1

@@ -1,7 +1,7 @@
 // Rows written as they were planned, each at the start of what is left of the buffer.
-ghost use Rattle.std.specs.Prelude.{◌≡◌, false, ◌+◌, ◌≤◌, ◌<◌, length, take};
+ghost use Rattle.std.specs.Prelude.{◌≡◌, false, ◌+◌, ◌≤◌, ◌<◌, length, take, Ok};
 ghost use Rattle.format.specs.Limits.{max_bytes, max_rows};
-ghost use Rattle.format.specs.Answer.{good, stored};
+ghost use Rattle.format.specs.Answer.{stored};
 ghost use Rattle.format.specs.Canonical.{canonical};
 ghost use Rattle.format.specs.Rows.{item_at, items_at};
 ghost use Rattle.format.specs.Writing.{is_bad};

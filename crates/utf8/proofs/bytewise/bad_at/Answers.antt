@@ -1,8 +1,9 @@
 -- `bad_at` is the place. The invariant: the bytes of the steps so far are ASCII. Assumes nothing.
+use Rattle.std.specs.Prelude.{unwrap_or}
 use mathlib.Core.Path.{ap, ◌∙◌}
 use native.Mathlib.Omega.{arith}
 use borrow.Author.Rules.{rules}
-use Rattle.format.specs.Utf8.{bad_at, or_zero}
+use Rattle.format.specs.Utf8.{bad_at}
 use Rattle.utf8.proofs.AsciiRuns.{ascii-on}
 use Rattle.utf8.proofs.bytewise.bad_at.Goals as goal
 
