@@ -12,7 +12,7 @@ use format::{ByteLength, Error, FieldCount, Header, Row, SymbolTable};
 use symbols::entry::{is_key, key_of, plain_entry};
 use symbols::lookup::{Links, Noted, note};
 use wire::codes::is_integer;
-use wire::header::{Head, kind_of};
+use wire::header::kind_of;
 use wire::rules::{bad_text, key_after_key};
 
 // What one item is, with the offset of the next.
@@ -284,7 +284,7 @@ pub fn one(
         → Judged o s.now entries.new names a (item o a (drop at s.now)) result }
 {
     match wire::header::header_at(s, at) {
-        Head::Cut => Out::Bad(Error::Truncated),
-        Head::Whole(h) => judge(s, strict, depth, h, at, names, keyed, entries, links),
+        None => Out::Bad(Error::Truncated),
+        Some(h) => judge(s, strict, depth, h, at, names, keyed, entries, links),
     }
 }

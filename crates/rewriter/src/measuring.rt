@@ -14,7 +14,7 @@ use encoder::putting::Reference;
 use format::{ByteLength, Header, Row, SymbolTable};
 use symbols::entry::key_of;
 use symbols::lookup::{Links, Noted, note};
-use wire::header::{Head, header_at, header_len, kind_of};
+use wire::header::{header_at, header_len, kind_of};
 
 // How far measuring has come.
 #[derive(Clone, Copy)]
@@ -214,8 +214,8 @@ fn item<'a>(
 {
     match header_at(s, t.at) {
         // not in a bundle that reads
-        Head::Cut => t,
-        Head::Whole(h) => headed(first, second, s, side, entries, links, to, plan, t, h),
+        None => t,
+        Some(h) => headed(first, second, s, side, entries, links, to, plan, t, h),
     }
 }
 

@@ -14,7 +14,7 @@ use crate::item::{is_fixed, is_number};
 use encoder::putting::{put_fixed, put_named, put_sized};
 use format::{ByteLength, Header, Row};
 use wire::codes::number_of;
-use wire::header::{Head, header_at};
+use wire::header::header_at;
 use wire::output::put_header;
 
 // Where an item ends in the bundle, and how many bytes were written for it.
@@ -100,8 +100,8 @@ fn item(out: &mut [u8], s: &[u8], plan: &[u16; Row::MAX_COUNT], w: Spot) -> Spot
 {
     match header_at(s, w.at) {
         // not in a bundle that reads
-        Head::Cut => w,
-        Head::Whole(h) => put_next(out, s, plan, w, h),
+        None => w,
+        Some(h) => put_next(out, s, plan, w, h),
     }
 }
 

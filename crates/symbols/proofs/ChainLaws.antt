@@ -1,5 +1,5 @@
 -- Entries with chains: a search along a chain finds what the search of all entries finds, and one more entry. Assumes nothing.
-use Rattle.std.specs.Prelude.{Option, None, Some}
+use Rattle.std.specs.Prelude.{None, Some}
 use mathlib.Core.Path.{◌≡◌, refl, ap, sym, ◌∙◌}
 use mathlib.Core.Logic.{◌≢◌}
 use mathlib.Core.Bool.{true, false}
@@ -17,29 +17,8 @@ use Rattle.format.proofs.Tests.{cases, clash, equal, order, eqb-true, and-true, 
 use Rattle.format.proofs.Names.{same_true, index_at}
 use Rattle.format.proofs.Encoding.{at_lt}
 use Rattle.symbols.specs.Entry.{key_of, key_in, buckets, bucket, name, name_in, names_in, Sound}
-use Rattle.symbols.specs.Chains.{found_of, Table, links_size, Chained}
-use Rattle.symbols.specs.declared.lookup.Lookup.TheVariants.{At, Nothing}
+use Rattle.symbols.specs.Chains.{Table, links_size, Chained}
 use Rattle.symbols.proofs.EntryLaws.{other_key}
-
--- ---- what is answered
-
-pub found_at : {i : ℕ} {o : Option ℕ} → o ≡ Some i → At i ≡ found_of o
-unfolding found_of
-found_at e = rw e
-
-pub found_none : {o : Option ℕ} → o ≡ None → Nothing ≡ found_of o
-unfolding found_of
-found_none e = rw e
-
-pub found_some : {i : ℕ} (o : Option ℕ) → At i ≡ found_of o → o ≡ Some i
-unfolding found_of
-found_some None e = absurd (let z : ◌≡◌ {A = ℕ} 0 1 = cc in omega arith)
-found_some (Some j) e = cc
-
-pub found_nothing : (o : Option ℕ) → Nothing ≡ found_of o → o ≡ None
-unfolding found_of
-found_nothing None e = refl
-found_nothing (Some j) e = absurd (let z : ◌≡◌ {A = ℕ} 0 1 = cc in omega arith)
 
 -- ---- names
 

@@ -1,15 +1,9 @@
 -- Entries with chains: links has a head for each bucket, and then the next of each entry; 0 ends a chain, and i + 1 is entry i.
 -- A chain goes from the last entry of a bucket to the one before it, and so on. The names are all different.
-use Rattle.std.specs.Prelude.{ℕ, ◌+◌, ◌≤◌, ◌<◌, ◌≡◌, false, List, length, get_or, Option, None, Some}
+use Rattle.std.specs.Prelude.{ℕ, ◌+◌, ◌≤◌, ◌<◌, ◌≡◌, false, List, length, get_or}
 use Rattle.format.specs.Limits.{max_entries}
 use Rattle.format.specs.Names.{same_name}
 use Rattle.symbols.specs.Entry.{buckets, bucket, name_in, Sound}
-use Rattle.symbols.specs.declared.lookup.Lookup.{Lookup}
-use Rattle.symbols.specs.declared.lookup.Lookup.TheVariants.{At, Nothing}
-
-unfoldable pub found_of : Option ℕ → Lookup
-found_of None = Nothing
-found_of (Some i) = At i
 
 pub record Table (a b es : List ℕ) (count : ℕ) : Type 0 where
   pub size : length es ≡ max_entries

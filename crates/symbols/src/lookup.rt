@@ -4,7 +4,7 @@ ghost use Rattle.format.specs.Kind as Kind;
 ghost use Rattle.format.specs.Limits.{max_bytes, max_entries};
 ghost use Rattle.format.specs.Names.{index};
 ghost use Rattle.symbols.specs.Entry.{key_of, name_in, names_in, name, Part, Sound};
-ghost use Rattle.symbols.specs.Chains.{found_of, Chained};
+ghost use Rattle.symbols.specs.Chains.{Chained};
 ghost use Rattle.symbols.specs.Noting.{NotedAs};
 
 use crate::entry::{Entry, bucket, is_name, pack};
@@ -20,13 +20,7 @@ impl Links {
     pub const SIZE: usize = Links::HEADS + SymbolTable::MAX_ENTRIES;
 }
 
-#[derive(Clone, Copy)]
-pub enum Lookup {
-    At(usize),
-    Nothing,
-}
-
-// The first entry of a name.
+// The index of the first entry of a name.
 pub fn find<'a>(
     first: &'a [u8],
     second: &'a [u8],
@@ -36,22 +30,21 @@ pub fn find<'a>(
     kind: u8,
     key: u64,
     content: &[u8],
-) -> Lookup
+) -> Option<usize>
     requires { Chained first.now second.now entries.now links.now count × (key ≡ key_of kind content.now)
         × (Kind.symbol ≤ kind) × (kind ≤ Kind.key) × (length content.now ≤ max_bytes) }
-    ensures { result ≡ found_of (index (name kind content.now)
-        (names_in first.now second.now (take count entries.now))) }
+    ensures { result ≡ index (name kind content.now) (names_in first.now second.now (take count entries.now)) }
 {
     let head = bucket(key);
     let mut v = links[head];
     while 0 < v {
         let i = (v - 1) as usize;
         if is_name(first, second, entries[i], kind, key, content) {
-            return Lookup::At(i);
+            return Some(i);
         }
         v = links[Links::HEADS + i];
     }
-    Lookup::Nothing
+    None
 }
 
 // Puts an entry at the end, in front of its chain.
@@ -102,8 +95,8 @@ pub fn note<'a>(
         links.old links.new count (name kind content.now) start result }
 {
     match find(first, second, entries, links, count, kind, key, content) {
-        Lookup::At(i) => Noted::Known(i),
-        Lookup::Nothing => {
+        Some(i) => Noted::Known(i),
+        None => {
             if SymbolTable::MAX_ENTRIES <= count {
                 return Noted::Full;
             }

@@ -1,5 +1,4 @@
 -- The local rule decides UTF-8: each byte passes by the three before it, and none is due at the end. Assumes nothing.
-use Rattle.std.specs.Prelude.{is_none}
 use mathlib.Core.Path.{◌≡◌, refl, sym, ap, ◌∙◌}
 use mathlib.Core.Bool.{Bool, true, false, not, ◌&&◌, ◌||◌, and_assoc, and-false, or-false}
 use mathlib.Core.List.{List, [], ◌∷◌}

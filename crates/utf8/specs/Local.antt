@@ -1,15 +1,8 @@
 -- UTF-8 by a local rule: whether a byte may stand where it does goes by the three bytes before it alone.
-use Rattle.std.specs.Prelude.{ℕ, ◌+◌, ◌*◌, ◌≤◌, ◌<◌, ◌≡◌, Bool, true, false, not, ◌&&◌, ◌||◌, List, leb, get_or, drop, Option, None, Some, is_none}
+use Rattle.std.specs.Prelude.{ℕ, ◌+◌, ◌*◌, ◌≤◌, ◌<◌, ◌≡◌, Bool, true, false, not, ◌&&◌, ◌||◌, List, leb, get_or, drop, is_none}
 use Rattle.std.specs.Bool.{beq}
 use Rattle.format.specs.Choice.{pick}
 use Rattle.format.specs.Utf8.{stop_after}
-use Rattle.utf8.specs.declared.bytewise.Stop.{Stop}
-use Rattle.utf8.specs.declared.bytewise.Stop.TheVariants as at
-
--- The place that an answer says.
-abbrev pub stop_of : Stop → Option ℕ
-stop_of at.Nowhere = None
-stop_of (at.At i) = Some i
 
 -- Bytes from an offset on are good where k continuation bytes are due first.
 abbrev pub good_after : ℕ → ℕ → List ℕ → Bool

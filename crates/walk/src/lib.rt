@@ -13,7 +13,7 @@ use format::{ByteLength, FieldCount, Header, Row, SymbolTable};
 use symbols::entry;
 use symbols::entry::plain_entry;
 use wire::codes::{is_integer, number_of};
-use wire::header::{Head, kind_of};
+use wire::header::kind_of;
 
 // How far a walk has come.
 #[derive(Clone, Copy)]
@@ -137,7 +137,7 @@ pub fn next(s: &[u8], table: &mut [u64; SymbolTable::MAX_ENTRIES], w: Walked) ->
 {
     match wire::header::header_at(s, w.at) {
         // not in a bundle that reads; w itself here would carry the padding of its row round a loop, which costs as much as all else
-        Head::Cut => Walked::new(),
-        Head::Whole(h) => headed(table, w, h),
+        None => Walked::new(),
+        Some(h) => headed(table, w, h),
     }
 }

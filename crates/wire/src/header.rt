@@ -4,7 +4,7 @@ ghost use Rattle.format.specs.Kind as Kind;
 ghost use Rattle.format.specs.Code as Code;
 ghost use Rattle.format.specs.Limits.{max_inline};
 ghost use Rattle.format.specs.Header.{shift, big_endian, following, header_of, width, header, is_long};
-ghost use Rattle.wire.specs.Heads.{sizes, max_following, whole_of};
+ghost use Rattle.wire.specs.Heads.{sizes, max_following};
 
 use format::{Header, Row};
 
@@ -16,13 +16,6 @@ impl Lead {
     pub const SIZES: u8 = 32;
     // The most bytes that follow it.
     pub const MAX_FOLLOWING: usize = Header::MAX_SIZE - 1;
-}
-
-// A header that was read, or bytes that end inside it.
-#[derive(Clone, Copy)]
-pub enum Head {
-    Cut,
-    Whole(Header),
 }
 
 // The kind of row that a code stands for.
@@ -114,12 +107,12 @@ fn inline_payload(code: u8, sz: u8) -> u64
     z
 }
 
-// The header at an offset.
-pub fn header_at(s: &[u8], at: usize) -> Head
-    ensures { whole_of result ≡ header_of (drop at s.now) }
+// The header at an offset; none where the bytes end inside it.
+pub fn header_at(s: &[u8], at: usize) -> Option<Header>
+    ensures { result ≡ header_of (drop at s.now) }
 {
     if s.len() <= at {
-        return Head::Cut;
+        return None;
     }
     let lead = s[at];
     let code = lead / Lead::SIZES;
@@ -127,18 +120,18 @@ pub fn header_at(s: &[u8], at: usize) -> Head
     // most headers: one byte with the payload in it
     if code != Header::BINARY {
         if sz as u64 <= Header::MAX_INLINE {
-            return Head::Whole(Header::new(code, sz, sz as u64, 1));
+            return Some(Header::new(code, sz, sz as u64, 1));
         }
     }
     let n = following(code, sz);
     let b = at + 1;
     if s.len() - b < n {
-        return Head::Cut;
+        return None;
     }
     if n == 0 {
-        return Head::Whole(Header::new(code, sz, inline_payload(code, sz), 1));
+        return Some(Header::new(code, sz, inline_payload(code, sz), 1));
     }
-    Head::Whole(Header::new(code, sz, payload(s, b, n), 1 + n))
+    Some(Header::new(code, sz, payload(s, b, n), 1 + n))
 }
 
 // The fewest bytes, from 1 to 8, that hold p: its bits without the leading zeros, in whole bytes. 0 takes a byte too, so

@@ -5,18 +5,18 @@ use Rattle.items.proofs.item.one.Goals as goal
 
 pub judge-requires : goal.judge-requires
 judge-requires c =
-    ((rw c.in-Whole.is at c.header_at.ensures), c.requires.0, c.requires.1, c.requires.2)
+    ((rw c.in-Some.is at c.header_at.ensures), c.requires.0, c.requires.1, c.requires.2)
 
-pub returns-in-Cut : goal.returns-in-Cut
-returns-in-Cut c = record {
+pub returns-in-None : goal.returns-in-None
+returns-in-None c = record {
   moves = tt;
-  judged = λ o a so hold d. cut o a _ (rw c.in-Cut.is at c.header_at.ensures);
+  judged = λ o a so hold d. cut o a _ (rw c.in-None.is at c.header_at.ensures);
 }
 
-pub returns-in-Whole : goal.returns-in-Whole
-returns-in-Whole c =
+pub returns-in-Some : goal.returns-in-Some
+returns-in-Some c =
     record {
       moves = c.judge.ensures.moves;
       judged = λ o a so hold d. judged_item c.args.s.now _ c.args.names o a _ c.judge.result
-          (rw c.in-Whole.is at c.header_at.ensures) (c.judge.ensures.judged o a so hold d);
+          (rw c.in-Some.is at c.header_at.ensures) (c.judge.ensures.judged o a so hold d);
     }

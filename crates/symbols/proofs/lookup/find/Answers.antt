@@ -2,7 +2,7 @@
 use mathlib.Core.Path.{sym, ◌∙◌}
 use Prim.Native.Nat.{◌-◌}
 use native.Mathlib.Omega.{arith}
-use Rattle.symbols.proofs.ChainLaws.{found_at, found_none, along_start, along_next, along_less, along_hit, along_end}
+use Rattle.symbols.proofs.ChainLaws.{along_start, along_next, along_less, along_hit, along_end}
 use Rattle.symbols.proofs.lookup.find.Goals as goal
 
 pub offset_bounds-links-head : goal.offset_bounds-links-head
@@ -39,7 +39,7 @@ is_name-requires c = (
 pub returns-then-is_name : goal.returns-then-is_name
 returns-then-is_name c =
     let h = sym c.is_name.ensures ∙ c.if-is_name.true in
-    found_at (along_hit _ c.requires.0 c.requires.1 c.requires.2 c.requires.3 c.loop-v.invariant
+    sym (along_hit _ c.requires.0 c.requires.1 c.requires.2 c.requires.3 c.loop-v.invariant
     c.loop-v-test.true h)
 
 pub overflow_add-v : goal.overflow_add-v
@@ -63,4 +63,4 @@ loop-v-preserved c =
     c.loop-v-test.true h
 
 pub returns : goal.returns
-returns c = found_none (along_end _ c.requires.0 c.requires.1 c.requires.2 c.requires.3 c.loop-v.invariant (omega arith))
+returns c = sym (along_end _ c.requires.0 c.requires.1 c.requires.2 c.requires.3 c.loop-v.invariant (omega arith))

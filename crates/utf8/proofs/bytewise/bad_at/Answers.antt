@@ -1,9 +1,6 @@
 -- `bad_at` is the place. The invariant: the bytes of the steps so far are ASCII. Assumes nothing.
-use Rattle.std.specs.Prelude.{unwrap_or}
-use mathlib.Core.Path.{ap, ◌∙◌}
 use native.Mathlib.Omega.{arith}
 use borrow.Author.Rules.{rules}
-use Rattle.format.specs.Utf8.{bad_at}
 use Rattle.utf8.proofs.AsciiRuns.{ascii-on}
 use Rattle.utf8.proofs.bytewise.bad_at.Goals as goal
 
@@ -12,10 +9,6 @@ loop-i-init c = (omega arith, λ i l u. absurd (omega arith))
 
 pub scan-requires : goal.scan-requires
 scan-requires c = c.loop-i.invariant
-
-pub returns-then-not-ascii_at : goal.returns-then-not-ascii_at
-unfolding bad_at
-returns-then-not-ascii_at c = c.place_of.ensures ∙ ap or_zero c.scan.ensures
 
 pub loop-i-preserved : goal.loop-i-preserved
 loop-i-preserved c =
@@ -27,7 +20,3 @@ loop-i-preserved c =
 
 pub scan-requires-2 : goal.scan-requires-2
 scan-requires-2 c = c.loop-i.invariant
-
-pub returns : goal.returns
-unfolding bad_at
-returns c = c.place_of-2.ensures ∙ ap or_zero c.scan-2.ensures
