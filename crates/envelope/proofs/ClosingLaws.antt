@@ -11,7 +11,7 @@ use Rattle.format.specs.declared.failure.Failure.{Failure}
 use Rattle.format.specs.Choice.{pick}
 use Rattle.format.specs.Limits.{max_bytes}
 use Rattle.format.specs.Answer.{Answer, counted, fail, stored, then}
-use Rattle.format.specs.Written.{Writes, answer_of}
+use Rattle.format.specs.Written.{Writes}
 use Rattle.format.specs.Header.{digits}
 use Rattle.format.specs.Envelope.{closing, envelope, overhead, version}
 use Rattle.format.proofs.Tests.{ltb_yes, ltb_no}
@@ -23,16 +23,16 @@ module _ (bs old : List ℕ) where
   abbrev Closes : Answer ℕ → List ℕ → Type 0
   Closes r new = Writes (closing bs (length old)) old r new
 
-  closes_failed : {r : Answer ℕ} {f : Failure} → answer_of r ≡ Err f → closing bs (length old) ≡ Err f → Closes r old
+  closes_failed : {r : Answer ℕ} {f : Failure} → r ≡ Err f → closing bs (length old) ≡ Err f → Closes r old
   unfolding counted then stored
   closes_failed q e = record { answer = q ∙ rw e; buffer = rw e }
 
-  pub closes_long : {r : Answer ℕ} → answer_of r ≡ fail TooLong 0 → max_bytes < length bs → Closes r old
+  pub closes_long : {r : Answer ℕ} → r ≡ fail TooLong 0 → max_bytes < length bs → Closes r old
   unfolding closing pick fail
   closes_long q l = closes_failed q (rw (ltb_yes l))
 
   module _ (l : length bs ≤ max_bytes) where
-    pub closes_short : {r : Answer ℕ} → answer_of r ≡ fail OutputTooLong 0 → length old < overhead + length bs → Closes r old
+    pub closes_short : {r : Answer ℕ} → r ≡ fail OutputTooLong 0 → length old < overhead + length bs → Closes r old
     unfolding closing pick fail
     closes_short q m = closes_failed q (rw (ltb_no l, ltb_yes m))
 

@@ -2,11 +2,10 @@
 ghost use Rattle.std.specs.Prelude.{◌≡◌, ◌≤◌, ◌<◌, length};
 ghost use Rattle.format.specs.Answer.{counted};
 ghost use Rattle.format.specs.Envelope.{opening};
-ghost use Rattle.format.specs.Written.{answer_of};
 ghost use Rattle.envelope.specs.Answers.{bundle_in, length_field, missing_from, length_size};
 
 use crate::{LENGTH_SIZE, OVERHEAD, VERSION};
-use format::{Bundle, Error, Written};
+use format::{Bundle, Error, Failure, fail};
 
 fn wide(b: u8) -> usize
     ensures { (result ≡ b) × (result < 256) }
@@ -23,26 +22,26 @@ fn length_field(bytes: &[u8]) -> usize
 }
 
 // The length of the bundle in an envelope, or why it does not open.
-pub fn bundle_len(bytes: &[u8]) -> Written
-    ensures { answer_of result ≡ counted (opening bytes.now) }
+pub fn bundle_len(bytes: &[u8]) -> Result<usize, Failure>
+    ensures { result ≡ counted (opening bytes.now) }
 {
     if bytes.len() < LENGTH_SIZE {
-        return Written::fail(Error::InvalidEnvelope, 0);
+        return fail(Error::InvalidEnvelope, 0);
     }
     let n = length_field(bytes);
     if n == 0 {
-        return Written::fail(Error::InvalidEnvelope, 0);
+        return fail(Error::InvalidEnvelope, 0);
     }
     if Bundle::MAX_BYTES < n - 1 {
-        return Written::fail(Error::InvalidEnvelope, 0);
+        return fail(Error::InvalidEnvelope, 0);
     }
     if bytes.len() - LENGTH_SIZE < n {
-        return Written::fail(Error::InvalidEnvelope, 0);
+        return fail(Error::InvalidEnvelope, 0);
     }
     if bytes[LENGTH_SIZE] != VERSION {
-        return Written::fail(Error::UnsupportedVersion, 0);
+        return fail(Error::UnsupportedVersion, 0);
     }
-    Written::Done(n - 1)
+    Ok(n - 1)
 }
 
 // The bundle in an envelope, as that part of the bytes; an empty part where it does not open. Bytes after it are not looked at.
@@ -50,8 +49,8 @@ pub fn open(bytes: &[u8]) -> &[u8]
     ensures { result.now ≡ bundle_in (opening bytes.now) }
 {
     match bundle_len(bytes) {
-        Written::Done(n) => &bytes[OVERHEAD..OVERHEAD + n],
-        Written::Failed(_) => &bytes[0..0],
+        Ok(n) => &bytes[OVERHEAD..OVERHEAD + n],
+        Err(_) => &bytes[0..0],
     }
 }
 

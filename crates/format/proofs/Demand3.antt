@@ -15,7 +15,6 @@ use Rattle.format.specs.Writing.{fitted}
 use Rattle.format.specs.Joining.{joining, together}
 use Rattle.format.specs.Laws.{Means}
 use Rattle.format.specs.Demand3.{Demand3, Exceeds, Joins, OfThree, OfTwo, Refused, Way, Yields, left_first, refused, right_first}
-use Rattle.format.proofs.Tests.{failed-good, failed_inj, good_inj}
 use Rattle.format.proofs.Fitting.{fitted-fits, fitted-over}
 use Rattle.format.proofs.Stored.{stored-counted, stored-failed}
 use Rattle.format.proofs.Joins.{exceeds_refused, fits_else, join_result, joining-both, means_empty, means_within, size-refused, together-fits, together-good, together-names, together-refused, together-rows, together-within}

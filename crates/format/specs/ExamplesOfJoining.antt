@@ -1,5 +1,5 @@
 -- Examples of joining: what is joined, each refusal with its side, and bundles that two rules apply to.
-use Rattle.std.specs.Prelude.{ℕ, ◌≡◌, refl, List, [], ◌∷◌, ◌++◌, replicate, Err, Ok, is_some, is_none, unwrap_or}
+use Rattle.std.specs.Prelude.{ℕ, ◌≡◌, refl, List, [], ◌∷◌, ◌++◌, replicate, Err, Ok}
 use Rattle.format.specs.declared.error.Error.{Error}
 use Rattle.format.specs.declared.error.Error.TheVariants.{InvalidUtf8, OutputTooLong, TooManyEntries, TooManyRows, Truncated, UndefinedReference}
 use Rattle.format.specs.Choice.{pick}

@@ -1,6 +1,6 @@
 -- Examples of reading: each row marked T of document 01's "Messages to try", each kind of item, each refusal with its
 -- place, and inputs that two rules apply to.
-use Rattle.std.specs.Prelude.{ℕ, ◌^◌, ◌-◌, ◌≡◌, refl, List, [], ◌∷◌, ◌++◌, map, replicate, Ok, is_some, is_none, unwrap_or}
+use Rattle.std.specs.Prelude.{ℕ, ◌^◌, ◌-◌, ◌≡◌, refl, List, [], ◌∷◌, ◌++◌, map, replicate, Ok}
 use Rattle.format.specs.declared.row.Row.{Row}
 use Rattle.format.specs.declared.error.Mode.TheVariants.{Lenient, Strict}
 use Rattle.format.specs.declared.error.Error.TheVariants.{InvalidUtf8, NotCanonical, TooDeep, TooLong, TooManyEntries, TooManyRows, Truncated, UndefinedReference, UnexpectedKey}

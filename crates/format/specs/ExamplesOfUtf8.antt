@@ -1,5 +1,5 @@
 -- Examples of UTF-8: every lead byte, every continuation byte at each position, and what the condensed rule takes.
-use Rattle.std.specs.Prelude.{ℕ, suc, ◌-◌, ◌≡◌, refl, true, false, List, [], ◌∷◌, map, replicate, Option, None, Some, is_none}
+use Rattle.std.specs.Prelude.{ℕ, suc, ◌-◌, ◌≡◌, refl, true, false, List, [], ◌∷◌, map, replicate, Option, None, Some}
 use Rattle.format.specs.Choice.{pick}
 use Rattle.format.specs.Utf8.{leads, stop, stop_after, utf8, within}
 use Rattle.format.specs.Samples.{upward}

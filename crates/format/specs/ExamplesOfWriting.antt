@@ -1,5 +1,5 @@
 -- Examples of writing: what is written, each refusal with its row, and rows that two rules apply to.
-use Rattle.std.specs.Prelude.{ℕ, ◌^◌, ◌-◌, ◌≡◌, refl, List, [], ◌∷◌, ◌++◌, replicate, Err, Ok, is_some, is_none, unwrap_or}
+use Rattle.std.specs.Prelude.{ℕ, ◌^◌, ◌-◌, ◌≡◌, refl, List, [], ◌∷◌, ◌++◌, replicate, Err, Ok}
 use Rattle.format.specs.declared.row.Row.{Row}
 use Rattle.format.specs.declared.error.Error.TheVariants.{InvalidRow, InvalidUtf8, OutputTooLong, TooDeep, TooLong, TooManyEntries, TooManyRows, Truncated, UnexpectedKey}
 use Rattle.format.specs.Choice.{pick}

@@ -1,6 +1,6 @@
 // A failure (document 01: a refusal): what each call that is refused answers.
 ghost use Rattle.std.specs.Prelude.{◌≡◌};
-ghost use Rattle.format.specs.Answer.{failure, failure_beside, sided};
+ghost use Rattle.format.specs.Answer.{fail, failure, failure_beside, sided};
 
 use crate::error::Error;
 
@@ -45,4 +45,12 @@ impl Failure {
             row: self.row,
         }
     }
+}
+
+// The answer of a call that is refused, whatever it answers else.
+#[tactic(auto, unfolding(crate::specs::Answer::fail))]
+pub fn fail<T>(error: Error, place: usize) -> Result<T, Failure>
+    ensures { result ≡ fail error place }
+{
+    Err(Failure::new(error, place))
 }

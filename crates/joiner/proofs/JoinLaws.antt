@@ -57,6 +57,17 @@ both p q = record { u = p.u; v = q.u; first = p.is; second = q.is; count = omega
 
 -- ---- joining
 
+-- On either side a bundle that reads is the same, and one that does not has its failure on that side.
+pub counts_on : (k : ℕ) (r : Answer Bundle) {b : Bundle} → Ok b ≡ on_side k r → Ok b ≡ r
+unfolding on_side
+counts_on k (Err f) e = failed-good (sym e)
+counts_on k (Ok b) e = e
+
+pub failed_on : (k : ℕ) (r : Answer Bundle) {g : Failure} → Err g ≡ on_side k r → (f : Failure) × (Err f ≡ r) × (g ≡ sided k f)
+unfolding on_side
+failed_on k (Err f) e = (f, refl, failed_inj e)
+failed_on k (Ok b) e = failed-good e
+
 module _ (a b old : List ℕ) {f g : Failure} where
   pub unread_first : Err f ≡ counts lenient a → g ≡ sided 1 f → Joins lenient a b old (Err g) old
   unfolding joining items on_side then counted stored

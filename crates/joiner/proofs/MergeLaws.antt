@@ -26,7 +26,6 @@ use Rattle.symbols.proofs.EntryLaws.{side_first, side_second}
 use Rattle.symbols.proofs.ChainLaws.{length-names}
 use Rattle.encoder.proofs.MeasureLaws.{measured-none}
 use Rattle.rewriter.specs.declared.measuring.Tally.{Tally}
-use Rattle.format.specs.Written.{answer_of}
 use Rattle.rewriter.specs.declared.putting.Spot.{Spot}
 use Rattle.format.specs.Demand3.{Joins}
 use Rattle.rewriter.specs.Measuring.{Begun, Measures, Tallied, all, over}
@@ -54,12 +53,12 @@ module _ {a b : List ℕ} {rows : ℕ} (p : Both a b rows) where
   both-rows : length (xs ++ ys) ≡ rows
   both-rows = length-append xs ys ∙ omega (arith, length-items p.u.found, length-items p.v.found, p.count)
 
-  refused : (old : List ℕ) {r : Answer ℕ} (k : Error) → answer_of r ≡ fail k 0
+  refused : (old : List ℕ) {r : Answer ℕ} (k : Error) → r ≡ fail k 0
       → together (length old) (xs ++ ys) ≡ fail k 0 → Joins lenient a b old r old
   unfolding counted stored then fail
   refused old k q t = let e = joined (length old) ∙ t in record { answer = q ∙ rw e; buffer = rw e }
 
-  pub rows-over : (old : List ℕ) {r : Answer ℕ} → answer_of r ≡ fail TooManyRows 0 → max_rows < rows → Joins lenient a b old r old
+  pub rows-over : (old : List ℕ) {r : Answer ℕ} → r ≡ fail TooManyRows 0 → max_rows < rows → Joins lenient a b old r old
   rows-over old q l = refused old TooManyRows q (together-rows (length old) (xs ++ ys) (rw both-rows l))
 
   -- ---- measured
@@ -109,7 +108,7 @@ module _ {a b : List ℕ} {rows : ℕ} (p : Both a b rows) where
           go (all k) = absurd (omega (arith, k.measured.table.table.few))
           go (over n h) = h
 
-      pub names-over : {r : Answer ℕ} → answer_of r ≡ fail TooManyEntries 0 → max_entries < t.names → Joins lenient a b old r old
+      pub names-over : {r : Answer ℕ} → r ≡ fail TooManyEntries 0 → max_entries < t.names → Joins lenient a b old r old
       names-over q g = refused old TooManyEntries q (together-names (length old) (xs ++ ys) few (many g))
 
       module _ (g : t.names ≤ max_entries) where
@@ -123,7 +122,7 @@ module _ {a b : List ℕ} {rows : ℕ} (p : Both a b rows) where
         names : length (names_from [] (xs ++ ys)) ≤ max_entries
         names = omega (arith, ap length tallied.measured.names, length-names tallied.measured.table.table)
 
-        pub size-over : {r : Answer ℕ} → answer_of r ≡ fail OutputTooLong 0
+        pub size-over : {r : Answer ℕ} → r ≡ fail OutputTooLong 0
             → ltb (min max_bytes (length old)) t.size ≡ true → Joins lenient a b old r old
         size-over q o =
             refused old OutputTooLong q

@@ -6,7 +6,7 @@ ghost use Rattle.format.specs.Limits.{max_rows};
 ghost use Rattle.joiner.specs.Merging.{Both, Fitting, Measured, Ready, Planned, Put, begun, top};
 
 use encoder::fitting::is_over;
-use format::{Error, Row, SymbolTable, Written};
+use format::{Error, Failure, Row, SymbolTable, fail};
 use rewriter::measuring::{Tally, measure};
 use rewriter::putting::{Spot, put};
 use symbols::lookup::Links;
@@ -59,21 +59,21 @@ fn put_both(out: &mut [u8], first: &[u8], second: &[u8], plan: &[u16; Row::MAX_C
 }
 
 // Merges two bundles that have so many rows together.
-pub fn merge<'a>(first: &'a [u8], second: &'a [u8], out: &mut [u8], rows: usize) -> Written
+pub fn merge<'a>(first: &'a [u8], second: &'a [u8], out: &mut [u8], rows: usize) -> Result<usize, Failure>
     requires { Both first.now second.now rows }
     ensures { Joins lenient first.now second.now out.old result out.new }
 {
     if Row::MAX_COUNT < rows {
-        return Written::fail(Error::TooManyRows, 0);
+        return fail(Error::TooManyRows, 0);
     }
     let mut plan = [0u16; Row::MAX_COUNT];
     let t = measure_both(first, second, &mut plan);
     if SymbolTable::MAX_ENTRIES < t.names {
-        return Written::fail(Error::TooManyEntries, 0);
+        return fail(Error::TooManyEntries, 0);
     }
     if is_over(t.size, out.len()) {
-        return Written::fail(Error::OutputTooLong, 0);
+        return fail(Error::OutputTooLong, 0);
     }
     put_both(out, first, second, &plan);
-    Written::Done(t.size)
+    Ok(t.size)
 }

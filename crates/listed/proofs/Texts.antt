@@ -19,7 +19,7 @@ use Rattle.format.specs.Rows.{blank, row_of, rows}
 use Rattle.format.proofs.Tests.{ltb_no, ltb_yes, pick_no, pick_yes}
 use Rattle.format.proofs.Lists.{length-items}
 use Rattle.format.proofs.Bounds.{reading-within}
-use Rattle.reader.specs.Answers.{answer_of, rows_in}
+use Rattle.reader.specs.Answers.{rows_in}
 use Rattle.wire.specs.Output.{Puts}
 use Rattle.ascii.specs.Text.{ascii, ended, labelled, newline, space}
 use Rattle.ascii.proofs.Lengths.{length-ended, length_flatten, length_four, length-labelled, length_one}
@@ -92,7 +92,7 @@ module _ (bs : List ℕ) where
   -- ---- a table
 
   module _ (t : Table) (p : Tabled bs t) where
-    pub row_count : rows_in (answer_of t.answer) ≡ length printed
+    pub row_count : rows_in t.answer ≡ length printed
     row_count = ap rows_in p.answer ∙ counted
 
     held : (old : List Row) (r : Answer (List Row)) → stored old r ≡ rows_of r ++ drop (length (rows_of r)) old
@@ -114,20 +114,20 @@ module _ (bs : List ℕ) where
     turn {w} {l₀} {l} {at} {i} q g = subst (Stage w l₀ l at) (row_line_lem i g) q
 
     module _ (k : ℕ) (out : List ℕ) (capacity : max_text ≤ length out) where
-      by_lines : text k bs ≡ flatten (first_line k (answer_of t.answer) ∷ row_lines 0 printed)
+      by_lines : text k bs ≡ flatten (first_line k t.answer ∷ row_lines 0 printed)
       unfolding text
       by_lines = ap (λ (r : Answer Bundle). flatten (first_line k r ∷ row_lines 0 printed)) (sym p.answer)
 
-      fits : length (flatten (first_line k (answer_of t.answer) ∷ row_lines 0 printed)) ≤ length out
+      fits : length (flatten (first_line k t.answer ∷ row_lines 0 printed)) ≤ length out
       fits = rw (← by_lines) (omega (arith, text-short k))
 
-      pub line_fits : length (first_line k (answer_of t.answer)) ≤ length out
-      line_fits = first_fits (first_line k (answer_of t.answer)) (row_lines 0 printed) out fits
+      pub line_fits : length (first_line k t.answer) ≤ length out
+      line_fits = first_fits (first_line k t.answer) (row_lines 0 printed) out fits
 
-      pub line_put : (l : List ℕ) (n : ℕ) → Puts (first_line k (answer_of t.answer)) n out l
+      pub line_put : (l : List ℕ) (n : ℕ) → Puts (first_line k t.answer) n out l
           → Stage (text k bs) out l n (row_lines 0 printed)
       line_put l n q = subst⁻¹ (λ (w : List ℕ). Stage w out l n (row_lines 0 printed)) by_lines
-          (first (first_line k (answer_of t.answer)) (row_lines 0 printed) out fits l n q)
+          (first (first_line k t.answer) (row_lines 0 printed) out fits l n q)
 
 -- ---- a buffer
 
@@ -153,6 +153,6 @@ module _ (out : List ℕ) (g : max_text ≤ length out) where
   told_all o = sym (pick_no Good o (ltb_no g))
 
   pub prints_all : {l : List ℕ} {n : ℕ} (k : ℕ) (bs : List ℕ) (t : Table) → Tabled bs t → Puts (text k bs) n out l
-      → Prints k bs out (printed_of n (answer_of t.answer)) l
+      → Prints k bs out (printed_of n t.answer) l
   prints_all k bs t p q =
       record { puts = put_all (text k bs) q; outcome = ap outcome_of p.answer ∙ told_all (outcome_of (counts lenient bs)) }

@@ -5,7 +5,6 @@ use Rattle.format.specs.Limits.{max_rows}
 use Rattle.format.specs.Answer.{Answer, outcome_of, stored}
 use Rattle.format.specs.Reading.{counts, lenient}
 use Rattle.format.specs.Rows.{blank, rows}
-use Rattle.reader.specs.Answers.{answer_of}
 use Rattle.wire.specs.Output.{Puts}
 use Rattle.listed.specs.declared.table.Table.{Table}
 use Rattle.listed.specs.declared.text.Printed.{Printed}
@@ -13,7 +12,7 @@ use Rattle.listed.specs.Text.{text, told_within, within}
 
 -- A table of 1,024 rows that a bundle was read into.
 pub record Tabled (bytes : List ℕ) (t : Table) : Type 0 where
-  pub answer : answer_of t.answer ≡ counts lenient bytes
+  pub answer : t.answer ≡ counts lenient bytes
   pub filled : t.rows ≡ stored (replicate max_rows blank) (rows lenient bytes)
 
 -- What is answered of a text of so many bytes, by what reading answered.

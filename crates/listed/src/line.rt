@@ -1,6 +1,5 @@
 // Lines, written at the start of a buffer; what is answered is how many bytes were written.
 ghost use Rattle.std.specs.Prelude.{◌≤◌, length};
-ghost use Rattle.reader.specs.Answers.{answer_of};
 ghost use Rattle.listed.specs.Text.{row_line, bundle_line, first_line, envelope_text};
 ghost use Rattle.wire.specs.Output.{Puts};
 
@@ -32,12 +31,12 @@ fn put_bundle_line(k: u64, word: &[u8], n: u64, other: &[u8], m: u64, out: &mut 
 }
 
 // The counts of a bundle, or why it is refused.
-pub fn put_first(k: u64, answer: Checked, out: &mut [u8]) -> usize
-    requires { length (first_line k (answer_of answer)) ≤ length out.old }
-    ensures { Puts (first_line k (answer_of answer)) result out.old out.new }
+pub fn put_first(k: u64, answer: Result<Bundle, Failure>, out: &mut [u8]) -> usize
+    requires { length (first_line k answer) ≤ length out.old }
+    ensures { Puts (first_line k answer) result out.old out.new }
 {
     match answer {
-        Checked::Good(b) => put_bundle_line(
+        Ok(b) => put_bundle_line(
             k,
             b" rows ",
             b.rows as u64,
@@ -45,7 +44,7 @@ pub fn put_first(k: u64, answer: Checked, out: &mut [u8]) -> usize
             b.entries as u64,
             out,
         ),
-        Checked::Failed(f) => {
+        Err(f) => {
             let error = f.error;
             put_bundle_line(
                 k,

@@ -7,7 +7,7 @@ use reader::Checked;
 // What reading answers, and the rows; those after the bundle's are blank.
 #[derive(Drop)]
 pub struct Table {
-    pub answer: Checked,
+    pub answer: Result<Bundle, Failure>,
     pub rows: [Row; Row::MAX_COUNT],
 }
 

@@ -1,6 +1,6 @@
 // The text for one envelope, at the start of a buffer.
 ghost use Rattle.std.specs.Prelude.{◌≡◌, length};
-ghost use Rattle.reader.specs.Answers.{answer_of, rows_in};
+ghost use Rattle.reader.specs.Answers.{rows_in};
 ghost use Rattle.wire.specs.Output.{Puts};
 ghost use Rattle.listed.specs.Text.{envelope_text, within};
 ghost use Rattle.listed.specs.Promises.{Prints, printed_of};
@@ -33,25 +33,25 @@ pub struct Printed {
 }
 
 // How many rows are printed.
-fn row_count(answer: Checked) -> usize
-    ensures { result ≡ rows_in (answer_of answer) }
+fn row_count(answer: Result<Bundle, Failure>) -> usize
+    ensures { result ≡ rows_in answer }
 {
     match answer {
-        Checked::Good(b) => b.rows,
-        Checked::Failed(_) => 0,
+        Ok(b) => b.rows,
+        Err(_) => 0,
     }
 }
 
 // How many bytes were written, with what reading answered.
-fn answered(answer: Checked, written: usize) -> Printed
-    ensures { result ≡ printed_of written (answer_of answer) }
+fn answered(answer: Result<Bundle, Failure>, written: usize) -> Printed
+    ensures { result ≡ printed_of written answer }
 {
     match answer {
-        Checked::Good(_) => Printed {
+        Ok(_) => Printed {
             written,
             outcome: Outcome::Good,
         },
-        Checked::Failed(f) => Printed {
+        Err(f) => Printed {
             written,
             outcome: Outcome::Failed(f),
         },

@@ -14,7 +14,7 @@ pub fn list(k: u64, bytes: &[u8], out: &mut [u8]) -> Step
     ensures { Makes filter k bytes.now out.old result out.new }
 {
     match envelope::bundle_len(bytes) {
-        Written::Failed(f) => {
+        Err(f) => {
             let error = f.error;
             Step {
                 used: 0,
@@ -22,7 +22,7 @@ pub fn list(k: u64, bytes: &[u8], out: &mut [u8]) -> Step
                 outcome: Outcome::Failed(f),
             }
         }
-        Written::Done(n) => {
+        Ok(n) => {
             let bundle = envelope::open(bytes);
             let printed = put_bundle(k, bundle, out);
             let outcome = printed.outcome;

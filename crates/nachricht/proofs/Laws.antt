@@ -12,7 +12,7 @@ use Rattle.format.specs.Answer.{Answer, then}
 use Rattle.format.specs.Reading.{State, counts, counts_of, items, items_of, options, reading}
 use Rattle.format.specs.Rows.{item_at, items_at, row_of, rows}
 use Rattle.format.specs.Writing.{writing}
-use Rattle.format.proofs.Tests.{failed-good, good_inj}
+use Rattle.format.proofs.Tests.{good_inj}
 use Rattle.format.proofs.Lists.{length-items}
 use Rattle.format.proofs.Steps.{then-good}
 use Rattle.format.proofs.Stored.{Stored, stored-counted, stored-good}
@@ -20,9 +20,6 @@ use Rattle.format.proofs.ReadBack.{read_back}
 use Rattle.format.proofs.Rows.{rows_mean}
 use Rattle.format.proofs.Writes.{writing-written}
 use Rattle.format.proofs.Laws.{rewriting_law}
-use Rattle.reader.specs.declared.checking.Checked.{Checked}
-use Rattle.reader.specs.declared.checking.Checked.TheVariants.{Err, Good}
-use Rattle.reader.specs.Answers.{answer_of}
 use Rattle.reader.specs.Promises.{Read}
 use Rattle.format.specs.Written.{Writes}
 use Rattle.nachricht.specs.Laws.{RewritesCanonically, WrittenReadsBack}
@@ -33,16 +30,12 @@ use Rattle.nachricht.specs.Laws.{RewritesCanonically, WrittenReadsBack}
 wrote_done : {result : Answer (List ℕ)} {old new : List ℕ} {n : ℕ} → Writes result old (Ok n) new → result ≡ Ok (take n new)
 wrote_done {old = old} p = (stored-counted old _ p.buffer (sym p.answer)).0
 
-checked_good : (r : Checked) {b : Bundle} → answer_of r ≡ Ok b → r ≡ Good b
-checked_good (Good c) e = ap Good (good_inj e)
-checked_good (Err f) e = failed-good e
-
 -- Of a bundle that reads, the counts are answered, and its rows are the front of the table.
-read-good : {mode : Mode} {bytes : List ℕ} {table table' : List Row} {r : Checked} {u : State}
+read-good : {mode : Mode} {bytes : List ℕ} {table table' : List Row} {r : Answer Bundle} {u : State}
     → Read mode bytes table r table' → reading (options mode (length table)) bytes ≡ Ok u
-    → (r ≡ Good (counts_of u)) × Stored table table' (map row_of u.found) (length u.found)
+    → (r ≡ Ok (counts_of u)) × Stored table table' (map row_of u.found) (length u.found)
 unfolding counts rows then
-read-good {r = r} {u} p e = (checked_good r (p.answer ∙ rw e), stored-good p.filled (rw e) (length-map u.found row_of))
+read-good {r = r} {u} p e = (p.answer ∙ rw e, stored-good p.filled (rw e) (length-map u.found row_of))
 
 -- ---- the laws
 

@@ -1,16 +1,10 @@
 -- The answer of a call by what the definitions say of it.
-use Rattle.std.specs.Prelude.{ℕ, Bool, true, false, Err, Ok}
+use Rattle.std.specs.Prelude.{ℕ, Err, Ok}
 use Rattle.format.specs.declared.bundle.Bundle.{Bundle}
-use Rattle.format.specs.declared.error.Mode.{Mode}
-use Rattle.format.specs.declared.error.Mode.TheVariants.{Lenient, Strict}
 use Rattle.format.specs.declared.failure.Failure.{Failure}
 use Rattle.format.specs.Error.{code_of}
 use Rattle.format.specs.Answer as answer
 use Rattle.nachricht.specs.declared.Answer.{Answer}
-
-abbrev pub mode_of : Bool → Mode
-mode_of true = Strict
-mode_of false = Lenient
 
 unfoldable pub failed_answer : Failure → Answer
 failed_answer f = record {

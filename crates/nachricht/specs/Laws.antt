@@ -10,18 +10,16 @@ use Rattle.format.specs.Reading.{items, options}
 use Rattle.format.specs.Rows.{Word, items_at}
 use Rattle.format.specs.Canonical.{canonical}
 use Rattle.format.specs.Writing.{fitted, writing}
-use Rattle.reader.specs.declared.checking.Checked.{Checked}
-use Rattle.reader.specs.declared.checking.Checked.TheVariants.{Good}
 use Rattle.reader.specs.Promises.{Read}
 use Rattle.format.specs.Written.{Writes}
 
 -- ---- what is written reads back
 
 -- Bytes that were read into a table: they are a bundle with the items of the rows `rs` over a text.
-pub record ReadsBack (rs : List Row) (text bytes : List ℕ) (table : List Row) (r : Checked) (table' : List Row) : Type 0 where
+pub record ReadsBack (rs : List Row) (text bytes : List ℕ) (table : List Row) (r : Answer Bundle) (table' : List Row) : Type 0 where
   -- the answer is good, with as many rows
   pub bundle : Bundle
-  pub reads : r ≡ Good bundle
+  pub reads : r ≡ Ok bundle
   pub size : bundle.rows ≡ length rs
   -- the first rows of the table mean over the bytes what `rs` means over the text: their starts may differ, kind, number and content do not
   pub meant : items_at bytes (take (length rs) table') ≡ items_at text rs
@@ -32,7 +30,7 @@ pub record ReadsBack (rs : List Row) (text bytes : List ℕ) (table : List Row) 
 abbrev pub WrittenReadsBack : Type 0
 WrittenReadsBack =
     (rs : List Row) (text old new : List ℕ) (n : ℕ) → Bytes text → All Word rs → Writes (writing rs text (length old)) old (Ok n) new
-    → (mode : Mode) (table table' : List Row) (r : Checked) → length rs ≤ length table → Read mode (take n new) table r table'
+    → (mode : Mode) (table table' : List Row) (r : Answer Bundle) → length rs ≤ length table → Read mode (take n new) table r table'
     → ReadsBack rs text (take n new) table r table'
 
 -- ---- what was read is written canonically
@@ -49,6 +47,6 @@ pub record Rewritten (mode : Mode) (bytes : List ℕ) (table : List Row) (old : 
 -- Writing the rows that `read` filled over the bundle's own bytes gives its canonical encoding, in whichever mode it was read.
 abbrev pub RewritesCanonically : Type 0
 RewritesCanonically =
-    (mode : Mode) (bytes : List ℕ) (table table' : List Row) (b : Bundle) → Bytes bytes → Read mode bytes table (Good b) table'
+    (mode : Mode) (bytes : List ℕ) (table table' : List Row) (b : Bundle) → Bytes bytes → Read mode bytes table (Ok b) table'
     → (old new : List ℕ) (w : Answer ℕ) → Writes (writing (take b.rows table') bytes (length old)) old w new
     → Rewritten mode bytes table old w new

@@ -7,18 +7,16 @@ ghost use Rattle.format.specs.Limits.{max_rows};
 ghost use Rattle.format.specs.Reading.{options, counts, lenient};
 ghost use Rattle.format.specs.Rows as table;
 ghost use Rattle.format.specs.Writing.{writing};
-ghost use Rattle.format.specs.Written as written;
 ghost use Rattle.format.specs.Joining.{canonicalizing, joining};
 ghost use Rattle.format.specs.Envelope.{closing, opening};
-ghost use Rattle.reader.specs.Answers.{answer_of};
-ghost use Rattle.nachricht.specs.Answers.{mode_of, failed_answer, counts_answer, count_answer};
+ghost use Rattle.format.specs.Error.{mode_of};
+ghost use Rattle.nachricht.specs.Answers.{failed_answer, counts_answer, count_answer};
 
-use format::{Failure, Mode, Row, Written};
-use reader::Checked;
+use format::{Bundle, Failure, Mode, Row};
 
 // An answer: the error's number or 0, its place, side and the row beside it, and the counts.
 #[repr(C)]
-#[derive(Clone, Copy)]
+#[derive(Clone, Copy, Debug, Default, PartialEq, Eq)]
 pub struct Answer {
     pub error: u64,
     pub place: u64,
@@ -29,68 +27,50 @@ pub struct Answer {
     pub fields: u64,
 }
 
-fn mode_of(strict: bool) -> Mode
-    ensures { result ≡ mode_of strict }
-{
-    if strict {
-        return Mode::Strict;
-    }
-    Mode::Lenient
-}
+impl From<Failure> for Answer {
+    ghost from_gives = { λ f answer. answer ≡ failed_answer f };
 
-fn failed(f: Failure) -> Answer
-    ensures { result ≡ failed_answer f }
-{
-    let error = f.error;
-    Answer {
-        error: error.code() as u64,
-        place: f.place as u64,
-        side: f.side as u64,
-        row: f.row as u64,
-        count: 0,
-        entries: 0,
-        fields: 0,
+    #[tactic(auto, unfolding(crate::specs::Answers::failed_answer))]
+    fn from(f: Failure) -> Answer {
+        Answer {
+            error: u64::from(f.error.code()),
+            place: f.place as u64,
+            side: u64::from(f.side),
+            row: f.row as u64,
+            ..Answer::default()
+        }
     }
 }
 
-fn answer_of(r: Checked) -> Answer
-    ensures { result ≡ counts_answer (answer_of r) }
-{
-    match r {
-        Checked::Failed(f) => failed(f),
-        Checked::Good(b) => Answer {
-            error: 0,
-            place: 0,
-            side: 0,
-            row: 0,
-            count: b.rows as u64,
-            entries: b.entries as u64,
-            fields: b.fields as u64,
-        },
+impl From<Result<Bundle, Failure>> for Answer {
+    ghost from_gives = { λ r answer. answer ≡ counts_answer r };
+
+    #[tactic(auto, unfolding(crate::specs::Answers::counts_answer))]
+    fn from(r: Result<Bundle, Failure>) -> Answer {
+        match r {
+            Ok(b) => Answer {
+                count: b.rows as u64,
+                entries: b.entries as u64,
+                fields: b.fields as u64,
+                ..Answer::default()
+            },
+            Err(f) => Answer::from(f),
+        }
     }
 }
 
-// So many bytes were written.
-fn done(n: usize) -> Answer
-    ensures { result ≡ count_answer (good n) }
-{
-    Answer {
-        error: 0,
-        place: 0,
-        side: 0,
-        row: 0,
-        count: n as u64,
-        entries: 0,
-        fields: 0,
-    }
-}
+impl From<Result<usize, Failure>> for Answer {
+    ghost from_gives = { λ r answer. answer ≡ count_answer r };
 
-fn written_of(r: Written) -> Answer
-    ensures { result ≡ count_answer (written.answer_of r) }
-{
-    match r {
-        Written::Failed(f) => failed(f),
-        Written::Done(n) => done(n),
+    #[tactic(auto, unfolding(crate::specs::Answers::count_answer))]
+    fn from(r: Result<usize, Failure>) -> Answer {
+        match r {
+            Ok(n) => Answer {
+                count: n as u64,
+                ..Answer::default()
+            },
+            Err(f) => Answer::from(f),
+        }
     }
 }
 
@@ -98,7 +78,7 @@ fn written_of(r: Written) -> Answer
 pub fn nachricht_check(bytes: &[u8], strict: bool) -> Answer
     ensures { result ≡ counts_answer (counts (options (mode_of strict) max_rows) bytes.now) }
 {
-    answer_of(reader::check_in(bytes, mode_of(strict)))
+    reader::check_in(bytes, Mode::from(strict)).into()
 }
 
 // Reads a bundle into a table of rows.
@@ -107,7 +87,7 @@ pub fn nachricht_read(bytes: &[u8], strict: bool, rows: &mut [Row]) -> Answer
     ensures filled { rows.new ≡ stored rows.old
         (table.rows (options (mode_of strict) (length rows.old)) bytes.now) }
 {
-    answer_of(reader::read_in(bytes, mode_of(strict), rows))
+    reader::read_in(bytes, Mode::from(strict), rows).into()
 }
 
 // Writes rows over a text.
@@ -116,7 +96,7 @@ pub fn nachricht_write(rows: &[Row], text: &[u8], out: &mut [u8]) -> Answer
     ensures buffer { out.new ≡ stored out.old
         (writing rows.now text.now (length out.old)) }
 {
-    written_of(writer::write(rows, text, out))
+    writer::write(rows, text, out).into()
 }
 
 // Writes the canonical encoding of a bundle.
@@ -125,7 +105,7 @@ pub fn nachricht_canonicalize(bytes: &[u8], out: &mut [u8]) -> Answer
     ensures buffer { out.new ≡ stored out.old
         (canonicalizing bytes.now (length out.old)) }
 {
-    written_of(joiner::canonicalize(bytes, out))
+    joiner::canonicalize(bytes, out).into()
 }
 
 // Joins two bundles.
@@ -135,14 +115,14 @@ pub fn nachricht_join<'a>(first: &'a [u8], second: &'a [u8], out: &mut [u8]) -> 
     ensures buffer { out.new ≡ stored out.old
         (joining lenient first.now second.now (length out.old)) }
 {
-    written_of(joiner::join(first, second, out))
+    joiner::join(first, second, out).into()
 }
 
 // Opens an envelope: the bundle's length. It begins after the length and the version, at offset 3.
 pub fn nachricht_open(envelope: &[u8]) -> Answer
     ensures { result ≡ count_answer (counted (opening envelope.now)) }
 {
-    written_of(envelope::bundle_len(envelope))
+    envelope::bundle_len(envelope).into()
 }
 
 // Writes the envelope of a bundle.
@@ -150,5 +130,5 @@ pub fn nachricht_close(bundle: &[u8], out: &mut [u8]) -> Answer
     ensures answer { result ≡ count_answer (counted (closing bundle.now (length out.old))) }
     ensures buffer { out.new ≡ stored out.old (closing bundle.now (length out.old)) }
 {
-    written_of(envelope::close(bundle, out))
+    envelope::close(bundle, out).into()
 }

@@ -9,7 +9,8 @@ ghost use Rattle.format.specs.Rows as table;
 ghost use Rattle.format.specs.Writing.{writing};
 ghost use Rattle.format.specs.Joining.{canonicalizing, joining};
 ghost use Rattle.format.specs.Envelope.{closing, opening};
-ghost use Rattle.nachricht.specs.Answers.{mode_of, counts_answer, count_answer};
+ghost use Rattle.format.specs.Error.{mode_of};
+ghost use Rattle.nachricht.specs.Answers.{counts_answer, count_answer};
 
 use format::Row;
 use nachricht::Answer;

@@ -17,11 +17,9 @@ use Rattle.format.proofs.Steps.{run_end}
 use Rattle.format.proofs.Tests.{ltb_yes, ltb_no, pick_yes, pick_no}
 use Rattle.symbols.proofs.ChainLaws.{chain_start}
 use Rattle.reader.specs.declared.fields.Cursor.{Cursor}
-use Rattle.reader.specs.declared.checking.Checked.TheVariants as checked
 use Rattle.symbols.specs.Entries.{entries_of}
 use Rattle.items.specs.Judging.{Fair, Stands, spot}
 use Rattle.reader.specs.Lanes.{Lane, Leads}
-use Rattle.reader.specs.Answers.{answer_of}
 use Rattle.symbols.proofs.Entries.{length-entries}
 
 pub fair-start : (strict : Bool) (s : List ℕ) → Fair strict s (replicate {A = ℕ} 256 0) (replicate {A = ℕ} 768 0) 0
@@ -77,7 +75,7 @@ module _ (o : Options) (s : List ℕ) where
       top-keyed k = top-failed (at-end ∙ pick_yes _ _ (ap due lead.place ∙ rw k) ∙ ap (fail Truncated) lead.stands.offset)
 
       pub top-good : (most : ℕ) → min max_rows o.capacity ≡ most → length es ≡ 256 → t.names ≤ 256 → eqb t.keyed 1 ≡ false
-          → answer_of (checked.Good (record { rows = most - t.rows; entries = t.names; fields = f })) ≡ counts o s
+          → Ok (record { rows = most - t.rows; entries = t.names; fields = f }) ≡ counts o s
       unfolding then ending due counts_of
       top-good most m size few k =
           let r : length lead.next.found ≡ most - t.rows = omega (arith, lead.row) in

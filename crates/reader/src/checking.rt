@@ -2,28 +2,11 @@
 ghost use Rattle.std.specs.Prelude.{◌≡◌, ℕ, ◌≤◌, min};
 ghost use Rattle.format.specs.declared.error.Mode.TheVariants.{Lenient};
 ghost use Rattle.format.specs.Limits.{max_rows};
-ghost use Rattle.format.specs.Answer.{fail};
 ghost use Rattle.format.specs.Reading.{options, counts};
-ghost use Rattle.reader.specs.Answers.{answer_of};
 
 use crate::fields::Step;
-use format::{Bundle, Error, Failure, FieldCount, Mode, Row, SymbolTable};
+use format::{Bundle, Error, Failure, FieldCount, Mode, Row, SymbolTable, fail};
 use symbols::lookup::Links;
-
-// The counts of a bundle that reads, or why it does not; the place is an offset.
-#[derive(Clone, Copy)]
-pub enum Checked {
-    Good(Bundle),
-    Failed(Failure),
-}
-
-impl Checked {
-    pub fn fail(error: Error, place: usize) -> Checked
-        ensures { answer_of result ≡ fail error place }
-    {
-        Checked::Failed(Failure::new(error, place))
-    }
-}
 
 // How many fields are asked for at the top: more than there are bytes, so that the bytes end first.
 #[derive(Clone, Copy)]
@@ -34,12 +17,12 @@ impl Top {
 }
 
 // The counts of a bundle of which most rows may be read.
-pub fn walk(bytes: &[u8], mode: Mode, most: usize) -> Checked
+pub fn walk(bytes: &[u8], mode: Mode, most: usize) -> Result<Bundle, Failure>
     requires { most ≤ max_rows }
-    ensures { (n : ℕ) → min max_rows n ≡ most → answer_of result ≡ counts (options mode n) bytes.now }
+    ensures { (n : ℕ) → min max_rows n ≡ most → result ≡ counts (options mode n) bytes.now }
 {
     if Bundle::MAX_BYTES < bytes.len() {
-        return Checked::fail(Error::TooLong, 0);
+        return fail(Error::TooLong, 0);
     }
     let mut entries = SymbolTable::new();
     let mut links = [0u16; Links::SIZE];
@@ -55,26 +38,26 @@ pub fn walk(bytes: &[u8], mode: Mode, most: usize) -> Checked
         &mut entries,
         &mut links,
     ) {
-        Step::Bad(f) => Checked::Failed(f),
+        Step::Bad(f) => Err(f),
         Step::End(left, u) => {
             if u.keyed == 1 {
-                return Checked::fail(Error::Truncated, u.at);
+                return fail(Error::Truncated, u.at);
             }
-            Checked::Good(Bundle::new(most - u.rows, u.names, (Top::FIELDS - left) as usize))
+            Ok(Bundle::new(most - u.rows, u.names, (Top::FIELDS - left) as usize))
         }
-        Step::Good(u) => Checked::fail(Error::Truncated, u.at),
+        Step::Good(u) => fail(Error::Truncated, u.at),
     }
 }
 
 // Checks a bundle leniently.
-pub fn check(bytes: &[u8]) -> Checked
-    ensures { answer_of result ≡ counts (options Lenient max_rows) bytes.now }
+pub fn check(bytes: &[u8]) -> Result<Bundle, Failure>
+    ensures { result ≡ counts (options Lenient max_rows) bytes.now }
 {
     check_in(bytes, Mode::default())
 }
 
-pub fn check_in(bytes: &[u8], mode: Mode) -> Checked
-    ensures { answer_of result ≡ counts (options mode max_rows) bytes.now }
+pub fn check_in(bytes: &[u8], mode: Mode) -> Result<Bundle, Failure>
+    ensures { result ≡ counts (options mode max_rows) bytes.now }
 {
     walk(bytes, mode, Row::MAX_COUNT)
 }

@@ -6,5 +6,5 @@ mod fields;
 mod fill;
 mod reading;
 
-pub use checking::{Checked, check, check_in};
+pub use checking::{check, check_in};
 pub use reading::{read, read_in};

@@ -3,13 +3,12 @@ ghost use Rattle.std.specs.Prelude.{◌≡◌, ◌≤◌, min};
 ghost use Rattle.format.specs.declared.error.Mode.TheVariants.{Lenient};
 ghost use Rattle.format.specs.Limits.{max_rows};
 ghost use Rattle.format.specs.Reading.{options, counts};
-ghost use Rattle.reader.specs.Answers.{answer_of, rows_in};
+ghost use Rattle.reader.specs.Answers.{rows_in};
 ghost use Rattle.reader.specs.Filling.{Fillable, Fills};
 ghost use Rattle.reader.specs.Promises.{Read};
 
-use crate::checking::Checked;
 use crate::fill::fill;
-use format::{Mode, Row, SymbolTable};
+use format::{Bundle, Failure, Mode, Row, SymbolTable};
 
 // Fills the first n rows, from an empty table of entries.
 fn filled_in(bytes: &[u8], rows: &mut [Row], n: usize)
@@ -31,31 +30,31 @@ fn most(capacity: usize) -> usize
 }
 
 // The counts of a bundle that is read into a table.
-fn counted(bytes: &[u8], mode: Mode, capacity: usize) -> Checked
-    ensures { answer_of result ≡ counts (options mode capacity) bytes.now }
+fn counted(bytes: &[u8], mode: Mode, capacity: usize) -> Result<Bundle, Failure>
+    ensures { result ≡ counts (options mode capacity) bytes.now }
 {
     crate::checking::walk(bytes, mode, most(capacity))
 }
 
 // How many rows are to be filled in.
-fn count_of(answer: Checked) -> usize
-    ensures { result ≡ rows_in (answer_of answer) }
+fn count_of(answer: Result<Bundle, Failure>) -> usize
+    ensures { result ≡ rows_in answer }
 {
     match answer {
-        Checked::Good(b) => b.rows,
-        Checked::Failed(_) => 0,
+        Ok(b) => b.rows,
+        Err(_) => 0,
     }
 }
 
 // Reads a bundle leniently.
-pub fn read(bytes: &[u8], rows: &mut [Row]) -> Checked
+pub fn read(bytes: &[u8], rows: &mut [Row]) -> Result<Bundle, Failure>
     ensures { Read Lenient bytes.now rows.old result rows.new }
 {
     read_in(bytes, Mode::default(), rows)
 }
 
 // Reads a bundle: its counts, with its rows in the first places of the table; on an error no row is changed.
-pub fn read_in(bytes: &[u8], mode: Mode, rows: &mut [Row]) -> Checked
+pub fn read_in(bytes: &[u8], mode: Mode, rows: &mut [Row]) -> Result<Bundle, Failure>
     ensures { Read mode bytes.now rows.old result rows.new }
 {
     let answer = counted(bytes, mode, rows.len());

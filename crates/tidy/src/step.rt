@@ -24,8 +24,8 @@ fn closed(used: usize, bundle: &[u8], out: &mut [u8]) -> Step
     ensures { Closed used bundle.now out.old result out.new }
 {
     match envelope::close(bundle, out) {
-        Written::Failed(f) => refused(f),
-        Written::Done(written) => Step {
+        Err(f) => refused(f),
+        Ok(written) => Step {
             used,
             written,
             outcome: Outcome::Good,
@@ -39,10 +39,10 @@ pub fn tidy(bytes: &[u8], scratch: &mut [u8], out: &mut [u8]) -> Step
     ensures { (k : ℕ) → Makes filter k bytes.now out.old result out.new }
 {
     match envelope::bundle_len(bytes) {
-        Written::Failed(f) => refused(f),
-        Written::Done(n) => match joiner::canonicalize(envelope::open(bytes), scratch) {
-            Written::Failed(f) => refused(f),
-            Written::Done(m) => closed(envelope::OVERHEAD + n, &scratch[..m], out),
+        Err(f) => refused(f),
+        Ok(n) => match joiner::canonicalize(envelope::open(bytes), scratch) {
+            Err(f) => refused(f),
+            Ok(m) => closed(envelope::OVERHEAD + n, &scratch[..m], out),
         },
     }
 }

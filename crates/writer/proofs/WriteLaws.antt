@@ -33,7 +33,6 @@ use Rattle.rows.specs.Judging.{RowError, failure_in, invalid_row, invalid_utf8, 
 use Rattle.writer.specs.Verdict.{Passed, Verdict}
 use Rattle.rows.proofs.StackLaws.{opened-length}
 use Rattle.symbols.proofs.ChainLaws.{length-names}
-use Rattle.format.specs.Written.{answer_of}
 use Rattle.rows.specs.Plan.{plan_size}
 use Rattle.writer.specs.Extent.{limit_of, rows_in}
 
@@ -247,7 +246,7 @@ module _ (rs : List Row) (text plan out : List ℕ) (s : State)
       let w = wrote text plan rs (length out) s bs v h in
       rw (e, limit_all w.few w.short, take-length rs) (le_refl (length rs), (w.putting, rw w.bytes))
 
-  module _ (r : Answer ℕ) (k : ℕ) (e : answer_of r ≡ counted (writing rs text (length out))) (ek : k ≡ rows_in (answer_of r) n) where
+  module _ (r : Answer ℕ) (k : ℕ) (e : r ≡ counted (writing rs text (length out))) (ek : k ≡ rows_in r n) where
     all : (k ≤ length rs) × (Putting text plan (take k rs) (length out)
         × (stored out (Ok (canonical (items_at text (take k rs)))) ≡ stored out (writing rs text (length out))))
     all = by_answer k (writing rs text (length out)) refl (ek ∙ ap (λ (a : Answer ℕ). rows_in a n) e)

@@ -56,7 +56,7 @@ fn put_next(
 pub fn put(rows: &[Row], text: &[u8], plan: &[u16; Plan::SIZE], out: &mut [u8], n: usize)
     requires { (n ≤ length rows.now) × Putting text.now plan.now (take n rows.now) (length out.old) }
     ensures { out.new ≡ stored out.old
-        (good (canonical (items_at text.now (take n rows.now)))) }
+        (Ok (canonical (items_at text.now (take n rows.now)))) }
 {
     let mut at = 0;
     let mut i = 0;

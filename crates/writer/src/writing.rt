@@ -5,7 +5,7 @@ ghost use Rattle.format.specs.declared.error.Error.{Error};
 ghost use Rattle.format.specs.Answer.{counted};
 ghost use Rattle.format.specs.Error.{code_of};
 ghost use Rattle.format.specs.Writing.{writing};
-ghost use Rattle.format.specs.Written.{Writes, answer_of};
+ghost use Rattle.format.specs.Written.{Writes};
 ghost use Rattle.rows.specs.Judging.{RowError, failure_in};
 ghost use Rattle.writer.specs.Verdict.{Verdict};
 ghost use Rattle.writer.specs.Extent.{limit_of, rows_in};
@@ -13,7 +13,7 @@ ghost use Rattle.writer.specs.Extent.{limit_of, rows_in};
 use crate::judging::judge;
 use crate::putting::put;
 use encoder::fitting::is_over;
-use format::{Bundle, Error, Failure, Row, Written};
+use format::{Bundle, Error, Failure, Row, fail};
 use rows::{Plan, State};
 
 // How many rows are to be judged: none where there are too many, or the text is too long.
@@ -64,40 +64,40 @@ fn is_due(s: State) -> bool
 }
 
 // The answer, once the rows are judged.
-fn decide(rows: usize, text: usize, capacity: usize, s: State) -> Written
+fn decide(rows: usize, text: usize, capacity: usize, s: State) -> Result<usize, Failure>
     ensures { (rs : List Row) (bs plan : List ℕ) → length rs ≡ rows → length bs ≡ text
-        → Verdict bs plan (take (limit_of rows text) rs) s → answer_of result ≡ counted (writing rs bs capacity) }
+        → Verdict bs plan (take (limit_of rows text) rs) s → result ≡ counted (writing rs bs capacity) }
 {
     if Row::MAX_COUNT < rows {
-        return Written::fail(Error::TooManyRows, 0);
+        return fail(Error::TooManyRows, 0);
     }
     if Bundle::MAX_BYTES < text {
-        return Written::fail(Error::TooLong, 0);
+        return fail(Error::TooLong, 0);
     }
     if s.error != 0 {
-        return Written::Failed(failure_of(s));
+        return Err(failure_of(s));
     }
     if is_due(s) {
-        return Written::fail(Error::Truncated, s.row);
+        return fail(Error::Truncated, s.row);
     }
     if is_over(s.size, capacity) {
-        return Written::fail(Error::OutputTooLong, 0);
+        return fail(Error::OutputTooLong, 0);
     }
-    Written::Done(s.size)
+    Ok(s.size)
 }
 
 // How many rows are to be written.
-fn count_of(answer: Written, n: usize) -> usize
-    ensures { result ≡ rows_in (answer_of answer) n }
+fn count_of(answer: Result<usize, Failure>, n: usize) -> usize
+    ensures { result ≡ rows_in answer n }
 {
     match answer {
-        Written::Done(_) => n,
-        Written::Failed(_) => 0,
+        Ok(_) => n,
+        Err(_) => 0,
     }
 }
 
 // Writes the canonical encoding of rows over a text; on an error no byte is changed.
-pub fn write(rows: &[Row], text: &[u8], out: &mut [u8]) -> Written
+pub fn write(rows: &[Row], text: &[u8], out: &mut [u8]) -> Result<usize, Failure>
     ensures { Writes (writing rows.now text.now (length out.old))
         out.old result out.new }
 {

@@ -7,16 +7,16 @@ use Rattle.envelope.proofs.OpeningLaws.{opens, opens_nothing}
 use Rattle.envelope.proofs.opening.open.Goals as goal
 
 pub overflow_add-result : goal.overflow_add-result
-overflow_add-result c = let j = opens _ (rw c.in-Done.is at c.bundle_len.ensures) in omega (arith, j.0)
+overflow_add-result c = let j = opens _ (rw c.in-Ok.is at c.bundle_len.ensures) in omega (arith, j.0)
 
 pub slice_bounds-result-end : goal.slice_bounds-result-end
-slice_bounds-result-end c = let j = opens _ (rw c.in-Done.is at c.bundle_len.ensures) in omega (arith, j.0)
+slice_bounds-result-end c = let j = opens _ (rw c.in-Ok.is at c.bundle_len.ensures) in omega (arith, j.0)
 
-pub returns-in-Done : goal.returns-in-Done
+pub returns-in-Ok : goal.returns-in-Ok
 unfolding bundle_in
-returns-in-Done c =
-    let j = opens _ (rw c.in-Done.is at c.bundle_len.ensures) in
+returns-in-Ok c =
+    let j = opens _ (rw c.in-Ok.is at c.bundle_len.ensures) in
     rw (add-sub_cancel_left) (sym (ap bundle_in j.1))
 
-pub returns-in-Failed : goal.returns-in-Failed
-returns-in-Failed c = sym (opens_nothing _ (rw c.in-Failed.is at c.bundle_len.ensures))
+pub returns-in-Err : goal.returns-in-Err
+returns-in-Err c = sym (opens_nothing _ (rw c.in-Err.is at c.bundle_len.ensures))

@@ -1,10 +1,10 @@
 -- `listed::line::put_first` meets its contract, by the case of the answer. Assumes nothing.
+use Rattle.format.specs.Answer.{Answer}
+use Rattle.format.specs.declared.bundle.Bundle.{Bundle}
 use mathlib.Core.Path.{sym, ap, subst, subst⁻¹, ◌∙◌}
 use mathlib.Core.List.{List}
 use Prim.Native.Nat.{ℕ, ◌≤◌}
 use lib.ListN.{length}
-use Rattle.reader.specs.declared.checking.Checked.{Checked}
-use Rattle.reader.specs.Answers.{answer_of}
 use Rattle.wire.specs.Output.{Puts}
 use Rattle.ascii.specs.Text.{ascii}
 use Rattle.listed.specs.Text.{at_word, bundle_line, first_line, refused_word}
@@ -16,36 +16,36 @@ put_bundle_line-requires c =
     let args' = c.args in
     let pre' = c.requires in
     let a = args' in
-    let e = sym (ap (λ (r : Checked). first_line a.k (answer_of r)) c.in-Good.is) in
+    let e = sym (ap (λ (r : Answer Bundle). first_line a.k r) c.in-Ok.is) in
     subst⁻¹ (λ (w : List ℕ). length w ≤ length a.out.now) e (pre')
 
-pub put_bundle_line-requires-in-Failed : goal.put_bundle_line-requires-in-Failed
+pub put_bundle_line-requires-in-Err : goal.put_bundle_line-requires-in-Err
 unfolding ascii first_line
-put_bundle_line-requires-in-Failed c =
+put_bundle_line-requires-in-Err c =
     let args' = c.args in
     let pre' = c.requires in
     let a = args' in
-    let f = c.in-Failed.f in
+    let f = c.in-Err.f in
     let e =
     ap (λ (n : ℕ). bundle_line a.k refused_word n at_word f.place) c.code.ensures
-    ∙ sym (ap (λ (r : Checked). first_line a.k (answer_of r)) c.in-Failed.is) in
+    ∙ sym (ap (λ (r : Answer Bundle). first_line a.k r) c.in-Err.is) in
     subst⁻¹ (λ (w : List ℕ). length w ≤ length a.out.now) e (pre')
 
-pub returns-in-Good : goal.returns-in-Good
+pub returns-in-Ok : goal.returns-in-Ok
 unfolding ascii first_line
-returns-in-Good c =
+returns-in-Ok c =
     let args' = c.args in
     let a = args' in
-    let e = sym (ap (λ (r : Checked). first_line a.k (answer_of r)) c.in-Good.is) in
+    let e = sym (ap (λ (r : Answer Bundle). first_line a.k r) c.in-Ok.is) in
     subst (λ (w : List ℕ). Puts w c.put_bundle_line.result a.out.now c.put_bundle_line.new.out) e c.put_bundle_line.ensures
 
-pub returns-in-Failed : goal.returns-in-Failed
+pub returns-in-Err : goal.returns-in-Err
 unfolding ascii first_line
-returns-in-Failed c =
+returns-in-Err c =
     let args' = c.args in
     let a = args' in
-    let f = c.in-Failed.f in
+    let f = c.in-Err.f in
     let e =
     ap (λ (n : ℕ). bundle_line a.k refused_word n at_word f.place) c.code.ensures
-    ∙ sym (ap (λ (r : Checked). first_line a.k (answer_of r)) c.in-Failed.is) in
-    subst (λ (w : List ℕ). Puts w c.put_bundle_line-in-Failed.result a.out.now c.put_bundle_line-in-Failed.new.out) e c.put_bundle_line-in-Failed.ensures
+    ∙ sym (ap (λ (r : Answer Bundle). first_line a.k r) c.in-Err.is) in
+    subst (λ (w : List ℕ). Puts w c.put_bundle_line-in-Err.result a.out.now c.put_bundle_line-in-Err.new.out) e c.put_bundle_line-in-Err.ensures

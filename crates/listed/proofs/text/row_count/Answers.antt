@@ -1,14 +1,14 @@
 -- `listed::text::row_count`: the rows that an answer counts, by its case. Assumes nothing.
+use Rattle.format.specs.declared.bundle.Bundle.{Bundle}
 use mathlib.Core.Path.{sym, ap}
-use Rattle.format.specs.Answer.{fail}
-use Rattle.reader.specs.declared.checking.Checked.{Checked}
-use Rattle.reader.specs.Answers.{answer_of, rows_in}
+use Rattle.format.specs.Answer.{Answer, fail}
+use Rattle.reader.specs.Answers.{rows_in}
 use Rattle.listed.proofs.text.row_count.Goals as goal
 
-pub returns-in-Good : goal.returns-in-Good
+pub returns-in-Ok : goal.returns-in-Ok
 unfolding rows_in
-returns-in-Good c = sym (ap (λ (a : Checked). rows_in (answer_of a)) c.in-Good.is)
+returns-in-Ok c = sym (ap (λ (a : Answer Bundle). rows_in a) c.in-Ok.is)
 
-pub returns-in-Failed : goal.returns-in-Failed
+pub returns-in-Err : goal.returns-in-Err
 unfolding rows_in fail
-returns-in-Failed c = sym (ap (λ (a : Checked). rows_in (answer_of a)) c.in-Failed.is)
+returns-in-Err c = sym (ap (λ (a : Answer Bundle). rows_in a) c.in-Err.is)

@@ -6,10 +6,10 @@ pub returns-in-First : goal.returns-in-First
 unfolding noted
 returns-in-First c = rw c.in-First.is
 
-pub returns-in-Good : goal.returns-in-Good
+pub returns-in-Ok : goal.returns-in-Ok
 unfolding noted
-returns-in-Good c = rw (c.in-None.is, c.in-Good.is)
+returns-in-Ok c = rw (c.in-None.is, c.in-Ok.is)
 
-pub returns-in-Failed : goal.returns-in-Failed
+pub returns-in-Err : goal.returns-in-Err
 unfolding noted
-returns-in-Failed c = rw (c.in-None.is, c.in-Failed.is)
+returns-in-Err c = rw (c.in-None.is, c.in-Err.is)

@@ -2,10 +2,10 @@
 use Rattle.tidy.proofs.TidyLaws.{closed_done, closed-failed}
 use Rattle.tidy.proofs.step.closed.Goals as goal
 
-pub returns-in-Failed : goal.returns-in-Failed
-returns-in-Failed c =
-    closed-failed _ _ _ (rw c.in-Failed.is at c.close.ensures) c.refused.ensures
+pub returns-in-Err : goal.returns-in-Err
+returns-in-Err c =
+    closed-failed _ _ _ (rw c.in-Err.is at c.close.ensures) c.refused.ensures
 
-pub returns-in-Done : goal.returns-in-Done
-returns-in-Done c =
-    closed_done _ _ _ (rw c.in-Done.is at c.close.ensures)
+pub returns-in-Ok : goal.returns-in-Ok
+returns-in-Ok c =
+    closed_done _ _ _ (rw c.in-Ok.is at c.close.ensures)
