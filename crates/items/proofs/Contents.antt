@@ -1,4 +1,7 @@
 -- Items whose content follows (bytes, strings, names): what each answer means. Assumes nothing.
+use Rattle.items.specs.declared.item.Refusal.{Refusal}
+use Rattle.items.specs.declared.item.Refusal.TheVariants as refusal
+use Rattle.std.specs.Prelude.{Result, Ok, Err}
 use Rattle.std.specs.Prelude.{Some, is_some}
 use mathlib.Core.Path.{◌≡◌, refl, ap, sym, subst, ◌∙◌}
 use mathlib.Core.Logic.{◌≢◌}
@@ -89,7 +92,7 @@ module _ {s es : List ℕ} {at names keyed next : ℕ} {h : Header} {o : Options
       uncut = let g : h.payload ≤ length (drop next s) = omega (arith, length-drop next s) in ltb_no g
 
       pub content-text : is_text x.item && not (utf8 x.item.content) ≡ true
-          → Judged o s es names a (headed o a (Some h) (drop at s)) (out.BadText next (next + p))
+          → Judged o s es names a (headed o a (Some h) (drop at s)) (Err (refusal.Text next (next + p)))
       unfolding is_content stop_in
       content-text e =
           let n : a.at + h.size ≡ next = omega (arith, cs.stands.offset, cs.size) in
@@ -118,7 +121,7 @@ module _ {s es : List ℕ} {at names keyed next : ℕ} {h : Header} {o : Options
             }
 
         -- bytes and strings
-        pub content-value : k < 10 → Judged o s es names a (headed o a (Some h) (drop at s)) (out.Value (next + p))
+        pub content-value : k < 10 → Judged o s es names a (headed o a (Some h) (drop at s)) (Ok (out.Value (next + p)))
         unfolding after is_content pick
         content-value low =
             let no_name : is_name x.item ≡ false = not-name x.item low in
@@ -170,7 +173,7 @@ module _ {s es : List ℕ} {at names keyed next : ℕ} {h : Header} {o : Options
 
             -- A key opens its field, a symbol ends it.
             pub name-fresh : names < max_entries → (es' : List ℕ) → entries_of s es' (names + 1) ≡ entries_of s es names ++ (x ∷ [])
-                → Judged o s es' names a (headed o a (Some h) (drop at s)) (fresh_of k (next + p))
+                → Judged o s es' names a (headed o a (Some h) (drop at s)) (Ok (fresh_of k (next + p)))
             unfolding fresh_of pick
             name-fresh l es' em =
                 equal k 11
@@ -201,15 +204,15 @@ module _ (s : List ℕ) (next p : ℕ) where
 pub fair-plain : {strict : Bool} {s es links : List ℕ} {names : ℕ} → Fair strict s es links names → Fair false s es links names
 fair-plain f = record { few = f.few; size = f.size; chained = λ z. clash z refl }
 
-pub name_moves : {strict b : Bool} {s es es' links' : List ℕ} {names kind next e : ℕ} {r : Out} → strict ≡ b
+pub name_moves : {strict b : Bool} {s es es' links' : List ℕ} {names kind next e : ℕ} {r : Result Out Refusal} → strict ≡ b
     → (at depth : ℕ) → at < e → e ≤ length s → Entered b s es es' links' names kind next e r
     → Moves strict s es' links' at names depth r
 unfolding fresh_of pick
 name_moves {strict} {b} {s} {es} {es'} {links'} {names} {kind} {next} {e} {r} z at depth l w t =
     subst (λ (v : Bool). Moves v s es' links' at names depth r) (sym z)
-    (subst (λ (v : Out). Moves b s es' links' at names depth v) (sym (is t).1) (is t).2)
+    (subst (λ (v : Result Out Refusal). Moves b s es' links' at names depth v) (sym (is t).1) (is t).2)
   where
-    is : Entered b s es es' links' names kind next e r → (q : Out) × (r ≡ q) × Moves b s es' links' at names depth q
+    is : Entered b s es es' links' names kind next e r → (q : Result Out Refusal) × (r ≡ q) × Moves b s es' links' at names depth q
     is (known z q) = (_, q, tt)
     is (full z m q) = (_, q, tt)
     is (entered z m q em f) = (
@@ -226,7 +229,7 @@ pub name-plain : {h : Header} → Name h → h.code + 5 ≢ 8
 name-plain {h} b e = omega (arith, b.high)
 
 pub name_judged : {strict : Bool} {s es es' links' : List ℕ} {at names keyed next : ℕ} {h : Header} {o : Options}
-    {a : State} {r : Out} (b : Name h) → o.strict ≡ strict
+    {a : State} {r : Result Out Refusal} (b : Name h) → o.strict ≡ strict
     → (cs : Case s es at names keyed next h o a) (p : ℕ) → p ≡ h.payload → length es ≡ 256 → names ≤ 256 → eqb keyed 1
     && eqb (h.code + 5) 11 ≡ false → p ≤ length s - next
     → is_text (part_of s (h.code + 5) next p).item && not (utf8 (part_of s (h.code + 5) next p).item.content) ≡ false
@@ -242,11 +245,11 @@ name_judged {strict} {s} {es} {es'} {links'} {at} {names} {keyed} {next} {h} {o}
     high = omega (arith, b.high)
 
     go : Entered strict s es es' links' names (h.code + 5) next (next + p) r → Judged o s es' names a (headed o a (Some h) (drop at s)) r
-    go (known z q) = subst (λ (v : Out). Judged o s es' names a (headed o a (Some h) (drop at s)) v) (sym q)
+    go (known z q) = subst (λ (v : Result Out Refusal). Judged o s es' names a (headed o a (Some h) (drop at s)) v) (sym q)
         (name-known cs p ep (h.code + 5) b.form (name-plain b) key whole text high (strictly true z))
-    go (full z m q) = subst (λ (v : Out). Judged o s es' names a (headed o a (Some h) (drop at s)) v) (sym q)
+    go (full z m q) = subst (λ (v : Result Out Refusal). Judged o s es' names a (headed o a (Some h) (drop at s)) v) (sym q)
         (name-full cs p ep (h.code + 5) b.form (name-plain b) key whole text high (strictly false z) size few m)
     go (entered z m q em f) =
-        subst (λ (v : Out). Judged o s es' names a (headed o a (Some h) (drop at s)) v) (sym q)
+        subst (λ (v : Result Out Refusal). Judged o s es' names a (headed o a (Some h) (drop at s)) v) (sym q)
         (name-fresh cs p ep (h.code + 5) b.form (name-plain b) key whole text high (strictly false z) size few m es'
         (rw (part_size next p) at em))

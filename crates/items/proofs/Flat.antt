@@ -1,4 +1,6 @@
 -- Items with no content of their own (fixed kinds, containers, references): what each answer means. Assumes nothing.
+use Rattle.items.specs.declared.item.Refusal.TheVariants as refusal
+use Rattle.std.specs.Prelude.{Ok, Err}
 use Rattle.std.specs.Prelude.{Some}
 use mathlib.Core.Path.{◌≡◌, refl, ap, sym, ◌∙◌}
 use mathlib.Core.Logic.{◌≢◌}
@@ -100,7 +102,7 @@ pub record Plain (h : Header) : Type 0 where
 
 pub fixed-value : {s es : List ℕ} {at names keyed next : ℕ} {h : Header} {o : Options} {a : State} (bs : List ℕ)
     → Case s es at names keyed next h o a → Plain h
-    → Judged o s es names a (headed o a (Some h) bs) (out.Value next)
+    → Judged o s es names a (headed o a (Some h) bs) (Ok (out.Value next))
 unfolding item_of is_content
 fixed-value {a = a} bs cs p =
     let x = (bare p.kind p.number).item in
@@ -137,7 +139,7 @@ module _ {s es : List ℕ} {at names keyed next : ℕ} {h : Header} {o : Options
   unfolding box
   box_is = is-container box refl
 
-  pub container-deep : max_depth ≤ length a.place.opened → Judged o s es names a (headed o a (Some h) bs) (out.Bad TooDeep)
+  pub container-deep : max_depth ≤ length a.place.opened → Judged o s es names a (headed o a (Some h) bs) (Err (refusal.Error TooDeep))
   unfolding item_of is_content box
   container-deep l = flat_deep bs cs _ (form-container h code) refl (bare 8 h.payload) refl
       (and_no_right a.place.keyed box_key) (and_yes box_is (leb_yes l))
@@ -148,14 +150,14 @@ module _ {s es : List ℕ} {at names keyed next : ℕ} {h : Header} {o : Options
     container_goes p e k = flat_goes bs cs _ (form-container h code) refl (bare 8 h.payload) refl
         (and_no_right a.place.keyed box_key) (and_no_right (is_container box) (leb_no d)) 0 p e k
 
-    pub container_empty : h.payload ≡ 0 → Judged o s es names a (headed o a (Some h) bs) (out.Value next)
+    pub container_empty : h.payload ≡ 0 → Judged o s es names a (headed o a (Some h) bs) (Ok (out.Value next))
     unfolding box
     container_empty z = container_goes _
         (moved_value a.place box box_key
         (and_no_right (is_container box) (ltb_no {a = 0} {b = h.payload} (omega arith)))) (ended-keyed _ _)
 
     pub container-held : (n : FieldCount) → n.0 ≡ h.payload → h.payload ≢ 0
-        → Judged o s es names a (headed o a (Some h) bs) (out.Container n next)
+        → Judged o s es names a (headed o a (Some h) bs) (Ok (out.Container n next))
     unfolding box
     container-held n e z =
         container_goes _ (moved-held a.place box box_key
@@ -167,7 +169,7 @@ module _ {s es : List ℕ} {at names keyed next : ℕ} {h : Header} {o : Options
 module _ {s es : List ℕ} {at names keyed next : ℕ} {h : Header} {o : Options} {a : State} (bs : List ℕ)
     (cs : Case s es at names keyed next h o a) (code : h.code ≡ 7)
     (size : length es ≡ 256) (few : names ≤ 256) where
-  pub reference_missing : names ≤ h.payload → Judged o s es names a (headed o a (Some h) bs) (out.Bad UndefinedReference)
+  pub reference_missing : names ≤ h.payload → Judged o s es names a (headed o a (Some h) bs) (Err (refusal.Error UndefinedReference))
   unfolding item_of
   reference_missing l = missing o a h bs reference (form-reference h (omega arith)) cs.short
       (rw cs.stands.entries (entry-none s es names size few h.payload l))
@@ -191,7 +193,7 @@ module _ {s es : List ℕ} {at names keyed next : ℕ} {h : Header} {o : Options
     no_box : is_container found.item ≡ false
     no_box = not-container found.item (λ q. omega (arith, kind_is))
 
-    pub reference-value : eqb (kind_in e) Kind.key ≡ false → Judged o s es names a (headed o a (Some h) bs) (out.Value next)
+    pub reference-value : eqb (kind_in e) Kind.key ≡ false → Judged o s es names a (headed o a (Some h) bs) (Ok (out.Value next))
     unfolding is_content
     reference-value z =
         let key : is_key found.item ≡ false = key-is ∙ z in
@@ -202,11 +204,11 @@ module _ {s es : List ℕ} {at names keyed next : ℕ} {h : Header} {o : Options
       a_key : is_key found.item ≡ true
       a_key = key-is ∙ z
 
-      pub reference-again : keyed ≡ 1 → Judged o s es names a (headed o a (Some h) bs) (out.Bad UnexpectedKey)
+      pub reference-again : keyed ≡ 1 → Judged o s es names a (headed o a (Some h) bs) (Err (refusal.Error UnexpectedKey))
       unfolding is_content
       reference-again k = flat_again bs cs _ (form-reference h (omega arith)) refl found meant (and_yes (cs.stands.key ∙ eqb_yes k) a_key)
 
-      pub reference-key : keyed ≢ 1 → Judged o s es names a (headed o a (Some h) bs) (out.Key next)
+      pub reference-key : keyed ≢ 1 → Judged o s es names a (headed o a (Some h) bs) (Ok (out.Key next))
       unfolding is_content
       reference-key k =
           flat_goes bs cs _ (form-reference h (omega arith)) refl found meant

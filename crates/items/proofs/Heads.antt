@@ -1,4 +1,6 @@
 -- A header that stands in the bytes: its bounds, and which code is left over. Assumes nothing.
+use Rattle.items.specs.declared.item.Refusal.{Refusal}
+use Rattle.std.specs.Prelude.{Result}
 use Rattle.std.specs.Prelude.{Some}
 use mathlib.Core.Path.{◌≡◌, refl, sym, subst}
 use mathlib.Core.Bool.{Bool, false, ◌&&◌, ◌||◌, and-false}
@@ -59,7 +61,7 @@ case {h = h} so e st = record {
   size = refl;
 }
 
-pub judged_item : (s es : List ℕ) (names : ℕ) (o : Options) (a : State) {h : Header} (bs : List ℕ) (r : Out)
+pub judged_item : (s es : List ℕ) (names : ℕ) (o : Options) (a : State) {h : Header} (bs : List ℕ) (r : Result Out Refusal)
     → Some h ≡ header_of bs → Judged o s es names a (headed o a (Some h) bs) r
     → Judged o s es names a (item o a bs) r
 judged_item s es names o a {h} bs r e j = subst (λ (v : Answer State). Judged o s es names a v r) (sym (whole o a bs h e)) j

@@ -1,4 +1,7 @@
 -- A name in full in the packed table: what its entry stands for, and what a lookup of it says. Assumes nothing.
+use Rattle.items.specs.declared.item.Refusal.{Refusal}
+use Rattle.items.specs.declared.item.Refusal.TheVariants as refusal
+use Rattle.std.specs.Prelude.{Result, Ok, Err}
 use Rattle.std.specs.Prelude.{Option, None, Some, is_some}
 use mathlib.Core.Path.{◌≡◌, refl, ap, sym, ◌∙◌}
 use mathlib.Core.Bool.{true, false}
@@ -19,7 +22,6 @@ use Rattle.symbols.proofs.EntryLaws.{packed_plain, side_both}
 use Rattle.symbols.specs.Entries.{found_in, entries_of, part_of}
 use Rattle.symbols.proofs.Entries.{entries-more, found_packed}
 use Rattle.items.specs.declared.item.Out.{Out}
-use Rattle.items.specs.declared.item.Out.TheVariants as out
 use Rattle.items.specs.Judging.{is_known, fresh_of, Entered, known, full, entered}
 
 items-entries : (s es : List ℕ) (names : ℕ) → items_of (entries_of s es names) ≡ names_in s s (take names es)
@@ -40,10 +42,10 @@ module _ (s es : List ℕ) (names kind next e : ℕ) (lo : 10 ≤ kind) (hi : ki
   abbrev plain : ℕ
   plain = plain_entry kind next (e - next)
 
-  pub plain-full : (links : List ℕ) {r : Out} → 256 ≤ names → r ≡ out.Bad TooManyEntries → Entered false s es es links names kind next e r
+  pub plain-full : (links : List ℕ) {r : Result Out Refusal} → 256 ≤ names → r ≡ Err (refusal.Error TooManyEntries) → Entered false s es es links names kind next e r
   plain-full links l q = full refl l q
 
-  pub plain-entered : (links : List ℕ) {v : ℕ} {r : Out} → v ≡ plain → names < 256 → r ≡ fresh_of kind e
+  pub plain-entered : (links : List ℕ) {v : ℕ} {r : Result Out Refusal} → v ≡ plain → names < 256 → r ≡ Ok (fresh_of kind e)
       → Entered false s es (set es names v) links names kind next e r
   plain-entered links ev l q =
       let p : Packed plain next 0 (e - next) kind = packed_plain next (e - next) kind (omega arith) lo hi in
@@ -80,18 +82,18 @@ module _ (s es : List ℕ) (names kind next e : ℕ) (lo : 10 ≤ kind) (hi : ki
     known_is f = ap is_some (ap (λ (x : Item). index x (items_of (entries_of s es names))) (sym is_part)
         ∙ ap (index (name kind bytes)) (items-entries s es names) ∙ f)
 
-    pub strict-known : {i : ℕ} {es' links' : List ℕ} {r : Out}
-        → index (name kind bytes) (names_in s s (take names es)) ≡ Some i → r ≡ out.Bad NotCanonical
+    pub strict-known : {i : ℕ} {es' links' : List ℕ} {r : Result Out Refusal}
+        → index (name kind bytes) (names_in s s (take names es)) ≡ Some i → r ≡ Err (refusal.Error NotCanonical)
         → Entered true s es es' links' names kind next e r
     strict-known f q = known (known_is f) q
 
-    pub strict-full : {es' links' : List ℕ} {r : Out} → index (name kind bytes) (names_in s s (take names es)) ≡ None
-        → 256 ≤ names → r ≡ out.Bad TooManyEntries
+    pub strict-full : {es' links' : List ℕ} {r : Result Out Refusal} → index (name kind bytes) (names_in s s (take names es)) ≡ None
+        → 256 ≤ names → r ≡ Err (refusal.Error TooManyEntries)
         → Entered true s es es' links' names kind next e r
     strict-full f l q = full (known_is f) l q
 
-    pub strict-entered : {es' links' : List ℕ} {r : Out} → noting.Entered s s es es' links' names (name kind bytes) next
-        → r ≡ fresh_of kind e → Entered true s es es' links' names kind next e r
+    pub strict-entered : {es' links' : List ℕ} {r : Result Out Refusal} → noting.Entered s s es es' links' names (name kind bytes) next
+        → r ≡ Ok (fresh_of kind e) → Entered true s es es' links' names kind next e r
     unfolding found_in
     strict-entered n q =
         let x : found_in s n.entry ≡ part = λ j. record { item = (n.named ∙ is_part) j; start = n.begins j } in

@@ -1,5 +1,5 @@
 -- How offsets, counts and the packed table stand for the state of `Reading`, and what the answers for one item mean.
-use Rattle.std.specs.Prelude.{◌≡◌, ◌≢◌, Bool, true, false, ◌&&◌, ◌||◌, List, [], ◌∷◌, ◌++◌, ℕ, ◌+◌, ◌-◌, ◌≤◌, ◌<◌, min, leb, eqb, length, take, drop, Ok, is_some}
+use Rattle.std.specs.Prelude.{◌≡◌, ◌≢◌, Bool, true, false, ◌&&◌, ◌||◌, List, [], ◌∷◌, ◌++◌, ℕ, ◌+◌, ◌-◌, ◌≤◌, ◌<◌, min, leb, eqb, length, take, drop, Result, Ok, Err, is_some}
 use Rattle.format.specs.declared.header.Header.{Header}
 use Rattle.format.specs.declared.error.Error.TheVariants.{InvalidUtf8, NotCanonical, TooManyEntries, TooManyRows}
 use Rattle.format.specs.Choice.{pick}
@@ -16,6 +16,8 @@ use Rattle.symbols.specs.Entries.{entries_of, part_of}
 use Rattle.symbols.specs.Chains.{Chained}
 use Rattle.items.specs.declared.item.Out.{Out}
 use Rattle.items.specs.declared.item.Out.TheVariants as out
+use Rattle.items.specs.declared.item.Refusal.{Refusal}
+use Rattle.items.specs.declared.item.Refusal.TheVariants as refusal
 
 -- ---- the symbol table
 
@@ -44,14 +46,14 @@ unfoldable pub stop_in : List ℕ → ℕ → ℕ → ℕ
 stop_in s i e = i + bad_at (take (e - i) (drop i s))
 
 -- What the code needs of an answer.
-abbrev pub Moves : Bool → List ℕ → List ℕ → List ℕ → ℕ → ℕ → ℕ → Out → Type 0
-Moves strict s es links at names depth (out.Bad e) = Unit
-Moves strict s es links at names depth (out.BadText i e) = (i ≤ e) × (e ≤ length s)
-Moves strict s es links at names depth (out.Value u) = Moved strict s es links at u names
-Moves strict s es links at names depth (out.Key u) = Moved strict s es links at u names
-Moves strict s es links at names depth (out.NewSymbol u) = Moved strict s es links at u (names + 1)
-Moves strict s es links at names depth (out.NewKey u) = Moved strict s es links at u (names + 1)
-Moves strict s es links at names depth (out.Container n u) = (0 < depth) × (0 < n.0) × Moved strict s es links at u names
+abbrev pub Moves : Bool → List ℕ → List ℕ → List ℕ → ℕ → ℕ → ℕ → Result Out Refusal → Type 0
+Moves strict s es links at names depth (Err (refusal.Error e)) = Unit
+Moves strict s es links at names depth (Err (refusal.Text i e)) = (i ≤ e) × (e ≤ length s)
+Moves strict s es links at names depth (Ok (out.Value u)) = Moved strict s es links at u names
+Moves strict s es links at names depth (Ok (out.Key u)) = Moved strict s es links at u names
+Moves strict s es links at names depth (Ok (out.NewSymbol u)) = Moved strict s es links at u (names + 1)
+Moves strict s es links at names depth (Ok (out.NewKey u)) = Moved strict s es links at u (names + 1)
+Moves strict s es links at names depth (Ok (out.Container n u)) = (0 < depth) × (0 < n.0) × Moved strict s es links at u names
 
 -- The last rule: there is a row for the item.
 unfoldable pub rowed : Options → State → State → Answer State
@@ -68,14 +70,14 @@ pub record Goes (o : Options) (s es : List ℕ) (at names keyed : ℕ) (p : Plac
   pub place : next.place ≡ p
   pub row : length next.found ≡ length a.found + 1
 
-abbrev pub Judged : Options → List ℕ → List ℕ → ℕ → State → Answer State → Out → Type 0
-Judged o s es names a r (out.Bad e) = r ≡ fail e a.at
-Judged o s es names a r (out.BadText i e) = r ≡ fail InvalidUtf8 (stop_in s i e)
-Judged o s es names a r (out.Value u) = Goes o s es u names 0 (ended a.place.opened a.place.fields) a r
-Judged o s es names a r (out.Key u) = Goes o s es u names 1 (spot a.place.opened true a.place.fields) a r
-Judged o s es names a r (out.NewSymbol u) = Goes o s es u (names + 1) 0 (ended a.place.opened a.place.fields) a r
-Judged o s es names a r (out.NewKey u) = Goes o s es u (names + 1) 1 (spot a.place.opened true a.place.fields) a r
-Judged o s es names a r (out.Container n u) = Goes o s es u names 0 (spot (n.0 ∷ a.place.opened) false a.place.fields) a r
+abbrev pub Judged : Options → List ℕ → List ℕ → ℕ → State → Answer State → Result Out Refusal → Type 0
+Judged o s es names a r (Err (refusal.Error e)) = r ≡ fail e a.at
+Judged o s es names a r (Err (refusal.Text i e)) = r ≡ fail InvalidUtf8 (stop_in s i e)
+Judged o s es names a r (Ok (out.Value u)) = Goes o s es u names 0 (ended a.place.opened a.place.fields) a r
+Judged o s es names a r (Ok (out.Key u)) = Goes o s es u names 1 (spot a.place.opened true a.place.fields) a r
+Judged o s es names a r (Ok (out.NewSymbol u)) = Goes o s es u (names + 1) 0 (ended a.place.opened a.place.fields) a r
+Judged o s es names a r (Ok (out.NewKey u)) = Goes o s es u (names + 1) 1 (spot a.place.opened true a.place.fields) a r
+Judged o s es names a r (Ok (out.Container n u)) = Goes o s es u names 0 (spot (n.0 ∷ a.place.opened) false a.place.fields) a r
 
 -- ---- headers
 
@@ -108,11 +110,11 @@ abbrev pub is_known : List ℕ → List ℕ → ℕ → Found → Bool
 is_known s es names x = is_some (index x.item (items_of (entries_of s es names)))
 
 -- What the table says of a name in full from one offset to another: strictly, it stands there already; there is no entry left; or it is in.
-pub data Entered (strict : Bool) (s es es' links' : List ℕ) (names kind next e : ℕ) (r : Out) : Type 0 where
-  known : strict && is_known s es names (part_of s kind next (e - next)) ≡ true → r ≡ out.Bad NotCanonical
+pub data Entered (strict : Bool) (s es es' links' : List ℕ) (names kind next e : ℕ) (r : Result Out Refusal) : Type 0 where
+  known : strict && is_known s es names (part_of s kind next (e - next)) ≡ true → r ≡ Err (refusal.Error NotCanonical)
       → Entered strict s es es' links' names kind next e r
   full : strict && is_known s es names (part_of s kind next (e - next)) ≡ false → max_entries ≤ names
-      → r ≡ out.Bad TooManyEntries → Entered strict s es es' links' names kind next e r
-  entered : strict && is_known s es names (part_of s kind next (e - next)) ≡ false → names < max_entries → r ≡ fresh_of kind e
+      → r ≡ Err (refusal.Error TooManyEntries) → Entered strict s es es' links' names kind next e r
+  entered : strict && is_known s es names (part_of s kind next (e - next)) ≡ false → names < max_entries → r ≡ Ok (fresh_of kind e)
       → entries_of s es' (names + 1) ≡ entries_of s es names ++ (part_of s kind next (e - next) ∷ [])
       → Fair strict s es' links' (names + 1) → Entered strict s es es' links' names kind next e r

@@ -18,12 +18,6 @@ use wire::rules::{bad_text, key_after_key};
 // What one item is, with the offset of the next.
 #[derive(Clone, Copy)]
 pub enum Out {
-    // No `Failure`: its place is the item's, which the caller has. With one, tried unproved, checking names took 1.5 times
-    // as long and one line 1.2 times (three runs of the bench).
-    Bad(Error),
-    // a string, symbol or key that is not UTF-8: where its content begins and ends. The caller looks for the place in it:
-    // with a call for each kind, here, checking names took 1.03 times as long (four runs of the bench).
-    BadText(usize, usize),
     // a value that makes no entry
     Value(usize),
     // a key by reference
@@ -34,6 +28,17 @@ pub enum Out {
     NewKey(usize),
     // a container with fields in it
     Container(FieldCount, usize),
+}
+
+// Why an item is refused.
+#[derive(Clone, Copy)]
+pub enum Refusal {
+    // No `Failure`: its place is the item's, which the caller has. With one, tried unproved, checking names took 1.5 times
+    // as long and one line 1.2 times (three runs of the bench).
+    Error(Error),
+    // a string, symbol or key that is not UTF-8: where its content begins and ends. The caller looks for the place in it:
+    // with a call for each kind, here, checking names took 1.03 times as long (four runs of the bench).
+    Text(usize, usize),
 }
 
 // Strict only: a header that is longer than it has to be, or the negative alias.
@@ -60,7 +65,7 @@ fn wasteful(strict: bool, h: Header) -> bool
 }
 
 // A container: judged by its depth.
-fn container(h: Header, next: usize, depth: usize) -> Out
+fn container(h: Header, next: usize, depth: usize) -> Result<Out, Refusal>
     requires { h.code ≡ Code.container }
     ensures moves { (strict : Bool) (s es links : List ℕ) (at names : ℕ) → Moved strict s es links at next names
         → Moves strict s es links at names depth result }
@@ -69,14 +74,14 @@ fn container(h: Header, next: usize, depth: usize) -> Out
         → length a.place.opened + depth ≡ max_depth → Judged o s es names a (headed o a (Some h) bs) result }
 {
     if depth == 0 {
-        return Out::Bad(Error::TooDeep);
+        return Err(Refusal::Error(Error::TooDeep));
     }
     let count = FieldCount::of(h);
     let n = count.0;
     if n == 0 {
-        return Out::Value(next);
+        return Ok(Out::Value(next));
     }
-    Out::Container(count, next)
+    Ok(Out::Container(count, next))
 }
 
 // A reference: judged by its index, and as the key or the symbol that it stands for.
@@ -86,7 +91,7 @@ fn reference(
     names: usize,
     keyed: usize,
     entries: &[u64; SymbolTable::MAX_ENTRIES],
-) -> Out
+) -> Result<Out, Refusal>
     requires { (h.code ≡ Code.reference) × (names ≤ max_entries) × (length entries.now ≡ max_entries) }
     ensures moves { (strict : Bool) (s links : List ℕ) (at depth : ℕ)
         → Moved strict s entries.now links at next names
@@ -97,20 +102,20 @@ fn reference(
 {
     let p = h.payload;
     if (names as u64) <= p {
-        return Out::Bad(Error::UndefinedReference);
+        return Err(Refusal::Error(Error::UndefinedReference));
     }
     let i = p as usize;
     if !is_key(entries[i]) {
-        return Out::Value(next);
+        return Ok(Out::Value(next));
     }
     if keyed == 1 {
-        return Out::Bad(Error::UnexpectedKey);
+        return Err(Refusal::Error(Error::UnexpectedKey));
     }
-    Out::Key(next)
+    Ok(Out::Key(next))
 }
 
 // Bytes or a string.
-fn content(s: &[u8], h: Header, next: usize) -> Out
+fn content(s: &[u8], h: Header, next: usize) -> Result<Out, Refusal>
     requires { Body h × (next ≤ length s.now) × (length s.now ≤ max_bytes) }
     ensures moves { (strict : Bool) (es links : List ℕ) (at names depth : ℕ)
         → Moved strict s.now es links at next names → Moves strict s.now es links at names depth result }
@@ -121,13 +126,13 @@ fn content(s: &[u8], h: Header, next: usize) -> Out
     let len = ByteLength::of(h);
     let p = len.0;
     if ((s.len() - next) as u64) < p {
-        return Out::Bad(Error::Truncated);
+        return Err(Refusal::Error(Error::Truncated));
     }
     let e = next + p as usize;
     if bad_text(h.code == Header::STRING, &s[next..e]) {
-        return Out::BadText(next, e);
+        return Err(Refusal::Text(next, e));
     }
-    Out::Value(e)
+    Ok(Out::Value(e))
 }
 
 // A name in full that makes an entry.
@@ -149,7 +154,7 @@ fn new_name(
     names: usize,
     entries: &mut [u64; SymbolTable::MAX_ENTRIES],
     links: &mut [u16; Links::SIZE],
-) -> Out
+) -> Result<Out, Refusal>
     requires { (Kind.symbol ≤ kind) × (kind ≤ Kind.key) × (next ≤ e) × (e ≤ length s.now)
         × (length s.now ≤ max_bytes) × Chained s.now s.now entries.old links.old names }
     ensures { Entered true s.now entries.old entries.new links.new names kind next e result }
@@ -157,9 +162,9 @@ fn new_name(
     let part = &s[next..e];
     let key = key_of(kind, part);
     match note(s, s, entries, links, names, kind, key, 0, next, part) {
-        Noted::Known(_) => Out::Bad(Error::NotCanonical),
-        Noted::Entered => fresh(kind, e),
-        Noted::Full => Out::Bad(Error::TooManyEntries),
+        Noted::Known(_) => Err(Refusal::Error(Error::NotCanonical)),
+        Noted::Entered => Ok(fresh(kind, e)),
+        Noted::Full => Err(Refusal::Error(Error::TooManyEntries)),
     }
 }
 
@@ -170,16 +175,16 @@ fn any_name(
     e: usize,
     names: usize,
     entries: &mut [u64; SymbolTable::MAX_ENTRIES],
-) -> Out
+) -> Result<Out, Refusal>
     requires { (Kind.symbol ≤ kind) × (kind ≤ Kind.key) × (next ≤ e) × (e ≤ max_bytes) × (names ≤ max_entries) }
     ensures { (s links : List ℕ) → e ≤ length s → Fair false s entries.old links names
         → Entered false s entries.old entries.new links names kind next e result }
 {
     if SymbolTable::MAX_ENTRIES <= names {
-        return Out::Bad(Error::TooManyEntries);
+        return Err(Refusal::Error(Error::TooManyEntries));
     }
     entries[names] = plain_entry(kind, next, e - next);
-    fresh(kind, e)
+    Ok(fresh(kind, e))
 }
 
 // A symbol or a key in full.
@@ -192,7 +197,7 @@ fn name(
     keyed: usize,
     entries: &mut [u64; SymbolTable::MAX_ENTRIES],
     links: &mut [u16; Links::SIZE],
-) -> Out
+) -> Result<Out, Refusal>
     requires { Name h × (next ≤ length s.now) × (length s.now ≤ max_bytes) × Fair strict s.now entries.old links.old names }
     ensures moves { (at depth : ℕ) → at < next
         → Moves strict s.now entries.new links.new at names depth result }
@@ -202,16 +207,16 @@ fn name(
 {
     let kind = kind_of(h.code);
     if key_after_key(keyed, kind) {
-        return Out::Bad(Error::UnexpectedKey);
+        return Err(Refusal::Error(Error::UnexpectedKey));
     }
     let len = ByteLength::of(h);
     let p = len.0;
     if ((s.len() - next) as u64) < p {
-        return Out::Bad(Error::Truncated);
+        return Err(Refusal::Error(Error::Truncated));
     }
     let e = next + p as usize;
     if !utf8::is_utf8_name(&s[next..e]) {
-        return Out::BadText(next, e);
+        return Err(Refusal::Text(next, e));
     }
     if strict {
         return new_name(s, kind, next, e, names, entries, links);
@@ -230,7 +235,7 @@ fn judge(
     keyed: usize,
     entries: &mut [u64; SymbolTable::MAX_ENTRIES],
     links: &mut [u16; Links::SIZE],
-) -> Out
+) -> Result<Out, Refusal>
     requires { (Some h ≡ header_of (drop at s.now)) × (at ≤ length s.now) × (length s.now ≤ max_bytes)
         × Fair strict s.now entries.old links.old names }
     ensures moves { Moves strict s.now entries.new links.new at names depth result }
@@ -239,12 +244,12 @@ fn judge(
         → Judged o s.now entries.new names a (headed o a (Some h) (drop at s.now)) result }
 {
     if wasteful(strict, h) {
-        return Out::Bad(Error::NotCanonical);
+        return Err(Refusal::Error(Error::NotCanonical));
     }
     let next = at + h.size;
     let code = h.code;
     if is_integer(code) {
-        return Out::Value(next);
+        return Ok(Out::Value(next));
     }
     // most items first
     if code == Header::REFERENCE {
@@ -261,7 +266,7 @@ fn judge(
     }
     let sz = h.sz;
     if sz < Row::BYTES {
-        return Out::Value(next);
+        return Ok(Out::Value(next));
     }
     content(s, h, next)
 }
@@ -276,7 +281,7 @@ pub fn one(
     keyed: usize,
     entries: &mut [u64; SymbolTable::MAX_ENTRIES],
     links: &mut [u16; Links::SIZE],
-) -> Out
+) -> Result<Out, Refusal>
     requires { (at ≤ length s.now) × (length s.now ≤ max_bytes) × Fair strict s.now entries.old links.old names }
     ensures moves { Moves strict s.now entries.new links.new at names depth result }
     ensures judged { (o : Options) (a : State) → o.strict ≡ strict
@@ -284,7 +289,7 @@ pub fn one(
         → Judged o s.now entries.new names a (item o a (drop at s.now)) result }
 {
     match wire::header::header_at(s, at) {
-        None => Out::Bad(Error::Truncated),
+        None => Err(Refusal::Error(Error::Truncated)),
         Some(h) => judge(s, strict, depth, h, at, names, keyed, entries, links),
     }
 }
