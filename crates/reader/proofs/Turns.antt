@@ -1,5 +1,5 @@
 -- A turn of the loop over fields: what one item, or a container read whole, does to the run. Assumes nothing.
-use Rattle.std.specs.Prelude.{Err}
+use Rattle.std.specs.Prelude.{Result, Ok, Err}
 use mathlib.Core.Path.{◌≡◌, refl, ap, sym, subst, ◌∙◌}
 use mathlib.Core.Logic.{◌≢◌}
 use mathlib.Core.Bool.{Bool, true, false}
@@ -20,6 +20,8 @@ use Rattle.format.proofs.Steps.{run-to, run-failed, run_end}
 use Rattle.format.proofs.Tests.{order, ltb_yes, ltb_no, pick_yes, pick_no}
 use Rattle.items.specs.declared.item.Out.{Out}
 use Rattle.items.specs.declared.item.Out.TheVariants as out
+use Rattle.items.specs.declared.item.Refusal.{Refusal}
+use Rattle.items.specs.declared.item.Refusal.TheVariants as refusal
 use Rattle.reader.specs.declared.fields.Cursor.{Cursor}
 use Rattle.reader.specs.declared.fields.Step.{Step}
 use Rattle.reader.specs.declared.fields.Step.TheVariants as step
@@ -31,12 +33,12 @@ abbrev pub cursor : ℕ → ℕ → ℕ → ℕ → Cursor
 cursor at names rows keyed = record { at = at; names = names; rows = rows; keyed = keyed }
 
 -- What is promised of one item, at a cursor.
-abbrev pub Promised : Options → List ℕ → List ℕ → List ℕ → Cursor → ℕ → Out → Type 0
+abbrev pub Promised : Options → List ℕ → List ℕ → List ℕ → Cursor → ℕ → Result Out Refusal → Type 0
 Promised o s es es' t d r = (b : State) → Stands s es t.at t.names t.keyed b
     → length b.place.opened + d ≡ max_depth → Judged o s es' t.names b (item o b (drop t.at s)) r
 
 -- What is promised of n fields.
-abbrev pub Resumed : Options → List ℕ → List ℕ → List ℕ → ℕ → ℕ → ℕ → ℕ → ℕ → Step → Type 0
+abbrev pub Resumed : Options → List ℕ → List ℕ → List ℕ → ℕ → ℕ → ℕ → ℕ → ℕ → Answer Step → Type 0
 Resumed o s es es' at names rows d n q = (Q : ℕ → Bool → Place) (b : State) → Lane Q d n → Stands s es at names 0 b
     → length b.found + rows ≡ min max_rows o.capacity → b.place ≡ Q n false
     → Resumes o s es' Q b q
@@ -86,7 +88,7 @@ inside_lane K f d n e =
 -- ---- from a cursor at a place
 
 module _ {o : Options} {s es : List ℕ} {t : Cursor} {p : Place} {a : State} (lead : Leads o s es t p a) (here : t.at < length s)
-    (es' : List ℕ) (d : ℕ) (deep : length p.opened + d ≡ max_depth) (r : Out) (one : Promised o s es es' t d r) where
+    (es' : List ℕ) (d : ℕ) (deep : length p.opened + d ≡ max_depth) (r : Result Out Refusal) (one : Promised o s es es' t d r) where
   abbrev from : State
   from = lead.next
 
@@ -108,18 +110,18 @@ module _ {o : Options} {s es : List ℕ} {t : Cursor} {p : Place} {a : State} (l
   unfolding fail
   stops k g j = stops_at k from.at j ∙ ap (λ (p : ℕ). Err (failure k p)) lead.stands.offset ∙ ap Err (sym g)
 
-  pub turn_bad : {f : Failure} (k : Error) → f ≡ failure k t.at → r ≡ out.Bad k → run o a 0 (drop a.at s) ≡ Err f
+  pub turn_bad : {f : Failure} (k : Error) → f ≡ failure k t.at → r ≡ Err (refusal.Error k) → run o a 0 (drop a.at s) ≡ Err f
   turn_bad k g e = stops k g (subst (Judged o s es' t.names from this) e judged)
 
   -- a text that is not UTF-8
-  pub turn_bad_text : (i u : ℕ) → r ≡ out.BadText i u
+  pub turn_bad_text : (i u : ℕ) → r ≡ Err (refusal.Text i u)
       → run o a 0 (drop a.at s) ≡ Err (failure InvalidUtf8 (stop_in s i u))
   unfolding fail
   turn_bad_text i u e = stops_at InvalidUtf8 (stop_in s i u) (subst (Judged o s es' t.names from this) e judged)
 
   -- an item that is no error, and no row for it
-  pub turn_full : {f : Failure} → f ≡ failure TooManyRows t.at → (x : Out) → r ≡ x
-      → rowless_of x ≡ out.Bad TooManyRows → t.rows ≡ 0 → run o a 0 (drop a.at s) ≡ Err f
+  pub turn_full : {f : Failure} → f ≡ failure TooManyRows t.at → (x : Result Out Refusal) → r ≡ x
+      → rowless_of x ≡ Err (refusal.Error TooManyRows) → t.rows ≡ 0 → run o a 0 (drop a.at s) ≡ Err f
   turn_full h x g e z = stops TooManyRows h (subst (Takes o s es' t.names t.rows from this) (ap rowless_of g ∙ e)
       (takes_none o from t.rows lead.row s es' this t.names r z judged))
 
@@ -132,16 +134,16 @@ module _ {o : Options} {s es : List ℕ} {t : Cursor} {p : Place} {a : State} (l
       → Leads o s es' (cursor at names rows keyed) (Q p) a
   turn_on at names keyed rows Q g = at_place (ap Q lead.place) (leads-on g)
 
-  pub turn_item : t.rows ≢ 0 → (x : Out) → r ≡ x → Takes o s es' t.names t.rows from this x
+  pub turn_item : t.rows ≢ 0 → (x : Result Out Refusal) → r ≡ x → Takes o s es' t.names t.rows from this x
   turn_item n x e = takes o from t.rows lead.row s es' this t.names x n (subst (Judged o s es' t.names from this) e judged)
 
-  turn_held : t.rows ≢ 0 → (n : FieldCount) (u : ℕ) → r ≡ out.Container n u
+  turn_held : t.rows ≢ 0 → (n : FieldCount) (u : ℕ) → r ≡ Ok (out.Container n u)
       → Leads o s es' (cursor u t.names (t.rows - 1) 0) (spot (n.0 ∷ p.opened) false p.fields) a
   turn_held z n u e = turn_on u t.names 0 (t.rows - 1) (λ (x : Place). spot (n.0 ∷ x.opened) false x.fields)
-      (turn_item z (out.Container n u) e)
+      (turn_item z (Ok (out.Container n u)) e)
 
-  module _ (z : t.rows ≢ 0) (n : FieldCount) (u : ℕ) (e : r ≡ out.Container n u) (pos : 0 < d) (some : 0 < n.0)
-      (es'' : List ℕ) (q : Step) (all : Resumed o s es' es'' u t.names (t.rows - 1) (d - 1) n.0 q) where
+  module _ (z : t.rows ≢ 0) (n : FieldCount) (u : ℕ) (e : r ≡ Ok (out.Container n u)) (pos : 0 < d) (some : 0 < n.0)
+      (es'' : List ℕ) (q : Answer Step) (all : Resumed o s es' es'' u t.names (t.rows - 1) (d - 1) n.0 q) where
     abbrev held : Leads o s es' (cursor u t.names (t.rows - 1) 0) (spot (n.0 ∷ p.opened) false p.fields) a
     held = turn_held z n u e
 
@@ -151,34 +153,34 @@ module _ {o : Options} {s es : List ℕ} {t : Cursor} {p : Place} {a : State} (l
         (inside_lane p.opened p.fields (d - 1) n.0 (omega arith)) held.stands held.row
         (held.place ∙ sym (midway_some n.0 false p.opened p.fields some))
 
-    pub held-bad : (f : Failure) → q ≡ step.Bad f → run o a 0 (drop a.at s) ≡ Err f
-    held-bad f g = held.is ∙ subst (λ (v : Step). Resumes o s es'' (inside p.opened p.fields) held.next v) g resumed
+    pub held-bad : (f : Failure) → q ≡ Err f → run o a 0 (drop a.at s) ≡ Err f
+    held-bad f g = held.is ∙ subst (λ (v : Answer Step). Resumes o s es'' (inside p.opened p.fields) held.next v) g resumed
 
     -- the bytes end inside a container
-    pub held-end : {f : Failure} (left : ℕ) (v : Cursor) → f ≡ failure Truncated v.at → q ≡ step.End left v
+    pub held-end : {f : Failure} (left : ℕ) (v : Cursor) → f ≡ failure Truncated v.at → q ≡ Ok (step.End left v)
         → 0 < left → length s ≤ v.at → run o a 0 (drop a.at s) ≡ Err f
     unfolding ending fail
     held-end left v h g l w =
         let r : Leads o s es'' v (midway left (eqb v.keyed 1) p.opened p.fields) held.next = subst
-        (λ (v : Step). Resumes o s es'' (inside p.opened p.fields) held.next v) g resumed in
+        (λ (v : Answer Step). Resumes o s es'' (inside p.opened p.fields) held.next v) g resumed in
         let x : due r.next.place ≡ true = ap due (r.place
         ∙ midway_some left (eqb v.keyed 1) p.opened p.fields l)
         ∙ due_open left p.opened (eqb v.keyed 1) p.fields in
         held.is ∙ r.is ∙ run_end o r.next s (omega (arith, r.stands.offset)) ∙ pick_yes _ _ x
         ∙ ap (λ (p : ℕ). Err (failure Truncated p)) r.stands.offset ∙ ap Err (sym h)
 
-    pub held-good : (v : Cursor) → q ≡ step.Good v → Leads o s es'' v (ended p.opened p.fields) a
+    pub held-good : (v : Cursor) → q ≡ Ok (step.Good v) → Leads o s es'' v (ended p.opened p.fields) a
     unfolding midway
     held-good v g =
         let l : Leads o s es'' v (ended p.opened p.fields) held.next = subst
-        (λ (v : Step). Resumes o s es'' (inside p.opened p.fields) held.next v) g resumed in
+        (λ (v : Answer Step). Resumes o s es'' (inside p.opened p.fields) held.next v) g resumed in
         record { next = l.next; is = held.is ∙ l.is; stands = l.stands; row = l.row; place = l.place }
 
 -- ---- in a lane, with some fields left
 
 module _ {o : Options} {s es : List ℕ} {t : Cursor} {a : State} (Q : ℕ → Bool → Place) (d n left : ℕ)
     (lane : Lane Q d n) (pos : 0 < left) (most : left ≤ n)
-    (lead : Leads o s es t (Q left (eqb t.keyed 1)) a) (here : t.at < length s) (es' : List ℕ) (r : Out)
+    (lead : Leads o s es t (Q left (eqb t.keyed 1)) a) (here : t.at < length s) (es' : List ℕ) (r : Result Out Refusal)
     (one : Promised o s es es' t d r) where
   abbrev deep : length (Q left (eqb t.keyed 1)).opened + d ≡ max_depth
   deep = lane.deep left (eqb t.keyed 1) pos most
@@ -186,46 +188,46 @@ module _ {o : Options} {s es : List ℕ} {t : Cursor} {a : State} (Q : ℕ → B
   abbrev less : ended (Q left (eqb t.keyed 1)).opened (Q left (eqb t.keyed 1)).fields ≡ Q (left - 1) false
   less = lane.value left (eqb t.keyed 1) pos most
 
-  pub field_bad : {f : Failure} (k : Error) → f ≡ failure k t.at → r ≡ out.Bad k → run o a 0 (drop a.at s) ≡ Err f
+  pub field_bad : {f : Failure} (k : Error) → f ≡ failure k t.at → r ≡ Err (refusal.Error k) → run o a 0 (drop a.at s) ≡ Err f
   field_bad k g e = turn_bad lead here es' d deep r one k g e
 
-  pub field_bad_text : (i u : ℕ) → r ≡ out.BadText i u
+  pub field_bad_text : (i u : ℕ) → r ≡ Err (refusal.Text i u)
       → run o a 0 (drop a.at s) ≡ Err (failure InvalidUtf8 (stop_in s i u))
   field_bad_text i u e = turn_bad_text lead here es' d deep r one i u e
 
-  pub field_full : {f : Failure} → f ≡ failure TooManyRows t.at → (x : Out) → r ≡ x
-      → rowless_of x ≡ out.Bad TooManyRows → t.rows ≡ 0 → run o a 0 (drop a.at s) ≡ Err f
+  pub field_full : {f : Failure} → f ≡ failure TooManyRows t.at → (x : Result Out Refusal) → r ≡ x
+      → rowless_of x ≡ Err (refusal.Error TooManyRows) → t.rows ≡ 0 → run o a 0 (drop a.at s) ≡ Err f
   field_full h x g e z = turn_full lead here es' d deep r one h x g e z
 
-  pub field_value : t.rows ≢ 0 → (u : ℕ) → r ≡ out.Value u → Leads o s es' (cursor u t.names (t.rows - 1) 0) (Q (left - 1) false) a
+  pub field_value : t.rows ≢ 0 → (u : ℕ) → r ≡ Ok (out.Value u) → Leads o s es' (cursor u t.names (t.rows - 1) 0) (Q (left - 1) false) a
   field_value z u e = at_place less (turn_on lead here es' d deep r one u t.names 0 (t.rows - 1)
-      (λ (x : Place). ended x.opened x.fields) (turn_item lead here es' d deep r one z (out.Value u) e))
+      (λ (x : Place). ended x.opened x.fields) (turn_item lead here es' d deep r one z (Ok (out.Value u)) e))
 
-  pub field_symbol : t.rows ≢ 0 → (u : ℕ) → r ≡ out.NewSymbol u
+  pub field_symbol : t.rows ≢ 0 → (u : ℕ) → r ≡ Ok (out.NewSymbol u)
       → Leads o s es' (cursor u (t.names + 1) (t.rows - 1) 0) (Q (left - 1) false) a
   field_symbol z u e = at_place less (turn_on lead here es' d deep r one u (t.names + 1) 0 (t.rows - 1)
-      (λ (x : Place). ended x.opened x.fields) (turn_item lead here es' d deep r one z (out.NewSymbol u) e))
+      (λ (x : Place). ended x.opened x.fields) (turn_item lead here es' d deep r one z (Ok (out.NewSymbol u)) e))
 
-  pub field_key : t.rows ≢ 0 → (u : ℕ) → r ≡ out.Key u → Leads o s es' (cursor u t.names (t.rows - 1) 1) (Q left true) a
+  pub field_key : t.rows ≢ 0 → (u : ℕ) → r ≡ Ok (out.Key u) → Leads o s es' (cursor u t.names (t.rows - 1) 1) (Q left true) a
   field_key z u e = at_place (lane.key left (eqb t.keyed 1) pos most)
       (turn_on lead here es' d deep r one u t.names 1 (t.rows - 1)
-      (λ (x : Place). spot x.opened true x.fields) (turn_item lead here es' d deep r one z (out.Key u) e))
+      (λ (x : Place). spot x.opened true x.fields) (turn_item lead here es' d deep r one z (Ok (out.Key u)) e))
 
-  pub field_new_key : t.rows ≢ 0 → (u : ℕ) → r ≡ out.NewKey u → Leads o s es' (cursor u (t.names + 1) (t.rows - 1) 1) (Q left true) a
+  pub field_new_key : t.rows ≢ 0 → (u : ℕ) → r ≡ Ok (out.NewKey u) → Leads o s es' (cursor u (t.names + 1) (t.rows - 1) 1) (Q left true) a
   field_new_key z u e = at_place (lane.key left (eqb t.keyed 1) pos most)
       (turn_on lead here es' d deep r one u (t.names + 1) 1 (t.rows - 1)
-      (λ (x : Place). spot x.opened true x.fields) (turn_item lead here es' d deep r one z (out.NewKey u) e))
+      (λ (x : Place). spot x.opened true x.fields) (turn_item lead here es' d deep r one z (Ok (out.NewKey u)) e))
 
-  module _ (z : t.rows ≢ 0) (c : FieldCount) (u : ℕ) (e : r ≡ out.Container c u) (room : 0 < d) (some : 0 < c.0)
-      (es'' : List ℕ) (q : Step) (all : Resumed o s es' es'' u t.names (t.rows - 1) (d - 1) c.0 q) where
-    pub field_held_bad : (f : Failure) → q ≡ step.Bad f → run o a 0 (drop a.at s) ≡ Err f
+  module _ (z : t.rows ≢ 0) (c : FieldCount) (u : ℕ) (e : r ≡ Ok (out.Container c u)) (room : 0 < d) (some : 0 < c.0)
+      (es'' : List ℕ) (q : Answer Step) (all : Resumed o s es' es'' u t.names (t.rows - 1) (d - 1) c.0 q) where
+    pub field_held_bad : (f : Failure) → q ≡ Err f → run o a 0 (drop a.at s) ≡ Err f
     field_held_bad f g = held-bad lead here es' d deep r one z c u e room some es'' q all f g
 
-    pub field_held_end : {f : Failure} (l : ℕ) (v : Cursor) → f ≡ failure Truncated v.at → q ≡ step.End l v → 0 < l
+    pub field_held_end : {f : Failure} (l : ℕ) (v : Cursor) → f ≡ failure Truncated v.at → q ≡ Ok (step.End l v) → 0 < l
         → length s ≤ v.at → run o a 0 (drop a.at s) ≡ Err f
     field_held_end l v h g p w = held-end lead here es' d deep r one z c u e room some es'' q all l v h g p w
 
-    pub field_held_good : (v : Cursor) → q ≡ step.Good v → v.keyed ≡ 0
+    pub field_held_good : (v : Cursor) → q ≡ Ok (step.Good v) → v.keyed ≡ 0
         → Leads o s es'' (cursor v.at v.names v.rows 0) (Q (left - 1) false) a
     field_held_good v g k =
         let l = at_place less (held-good lead here es' d deep r one z c u e room some es'' q all v g) in

@@ -27,7 +27,7 @@ pub fn walk(bytes: &[u8], mode: Mode, most: usize) -> Result<Bundle, Failure>
     let mut entries = SymbolTable::new();
     let mut links = [0u16; Links::SIZE];
     let strict = mode.is_strict();
-    match crate::fields::fields(
+    let all = crate::fields::fields(
         bytes,
         strict,
         Bundle::MAX_DEPTH,
@@ -37,8 +37,8 @@ pub fn walk(bytes: &[u8], mode: Mode, most: usize) -> Result<Bundle, Failure>
         most,
         &mut entries,
         &mut links,
-    ) {
-        Step::Bad(f) => Err(f),
+    )?;
+    match all {
         Step::End(left, u) => {
             if u.keyed == 1 {
                 return fail(Error::Truncated, u.at);

@@ -6,8 +6,8 @@ ghost use Rattle.format.specs.Reading.{Options, State};
 ghost use Rattle.items.specs.Judging.{Fair, Stands};
 ghost use Rattle.reader.specs.Lanes.{Lane, Went, Resumes, bad_text_in};
 
-use format::{Error, Failure, FieldCount, SymbolTable};
-use items::item::Out;
+use format::{Error, Failure, FieldCount, SymbolTable, fail};
+use items::item::{Out, Refusal};
 use symbols::lookup::Links;
 
 // How far reading has come: the offset, the entries, the rows that are left, and 1 where a key was read and its value is due.
@@ -19,21 +19,20 @@ pub struct Cursor {
     pub keyed: usize,
 }
 
-// What fields come to: a failure, the end of the bytes with some of them left, or all are read.
+// What fields come to: the end of the bytes with some of them left, or all are read.
 #[derive(Clone, Copy)]
 pub enum Step {
-    Bad(Failure),
     End(u64, Cursor),
     Good(Cursor),
 }
 
 // A text, from one offset to another, that is not UTF-8: only now the place is looked for.
-fn bad_text(s: &[u8], start: usize, end: usize) -> Step
+fn bad_text(s: &[u8], start: usize, end: usize) -> Result<Step, Failure>
     requires { (start ≤ end) × (end ≤ length s.now) × (length s.now ≤ max_bytes) }
     ensures { result ≡ bad_text_in s.now start end }
 {
     let place = start + utf8::bad_at(&s[start..end]);
-    Step::Bad(Failure::new(Error::InvalidUtf8, place))
+    fail(Error::InvalidUtf8, place)
 }
 
 pub fn fields(
@@ -46,7 +45,7 @@ pub fn fields(
     free: usize,
     entries: &mut [u64; SymbolTable::MAX_ENTRIES],
     links: &mut [u16; Links::SIZE],
-) -> Step
+) -> Result<Step, Failure>
     requires { (from ≤ length s.now) × (length s.now ≤ max_bytes) × Fair strict s.now entries.old links.old known }
     ensures went { Went strict s.now entries.new links.new from count.0 result }
     ensures resumes { (Q : ℕ → Bool → Place) (o : Options) (a : State) → o.strict ≡ strict
@@ -61,7 +60,7 @@ pub fn fields(
     let mut left = count.0;
     while 0 < left {
         if s.len() <= at {
-            return Step::End(
+            return Ok(Step::End(
                 left,
                 Cursor {
                     at,
@@ -69,35 +68,35 @@ pub fn fields(
                     rows,
                     keyed,
                 },
-            );
+            ));
         }
         match items::item::one(s, strict, depth, at, names, keyed, entries, links) {
-            Out::Bad(k) => {
-                return Step::Bad(Failure::new(k, at));
+            Err(Refusal::Error(k)) => {
+                return fail(k, at);
             }
-            Out::BadText(start, end) => {
+            Err(Refusal::Text(start, end)) => {
                 return bad_text(s, start, end);
             }
-            Out::Value(u) => {
+            Ok(Out::Value(u)) => {
                 if rows == 0 {
-                    return Step::Bad(Failure::new(Error::TooManyRows, at));
+                    return fail(Error::TooManyRows, at);
                 }
                 at = u;
                 rows -= 1;
                 keyed = 0;
                 left -= 1;
             }
-            Out::Key(u) => {
+            Ok(Out::Key(u)) => {
                 if rows == 0 {
-                    return Step::Bad(Failure::new(Error::TooManyRows, at));
+                    return fail(Error::TooManyRows, at);
                 }
                 at = u;
                 rows -= 1;
                 keyed = 1;
             }
-            Out::NewSymbol(u) => {
+            Ok(Out::NewSymbol(u)) => {
                 if rows == 0 {
-                    return Step::Bad(Failure::new(Error::TooManyRows, at));
+                    return fail(Error::TooManyRows, at);
                 }
                 at = u;
                 names += 1;
@@ -105,25 +104,23 @@ pub fn fields(
                 keyed = 0;
                 left -= 1;
             }
-            Out::NewKey(u) => {
+            Ok(Out::NewKey(u)) => {
                 if rows == 0 {
-                    return Step::Bad(Failure::new(Error::TooManyRows, at));
+                    return fail(Error::TooManyRows, at);
                 }
                 at = u;
                 names += 1;
                 rows -= 1;
                 keyed = 1;
             }
-            Out::Container(n, u) => {
+            Ok(Out::Container(n, u)) => {
                 if rows == 0 {
-                    return Step::Bad(Failure::new(Error::TooManyRows, at));
+                    return fail(Error::TooManyRows, at);
                 }
-                match fields(s, strict, depth - 1, n, u, names, rows - 1, entries, links) {
-                    Step::Bad(f) => {
-                        return Step::Bad(f);
-                    }
+                let inner = fields(s, strict, depth - 1, n, u, names, rows - 1, entries, links)?;
+                match inner {
                     Step::End(_, v) => {
-                        return Step::Bad(Failure::new(Error::Truncated, v.at));
+                        return fail(Error::Truncated, v.at);
                     }
                     Step::Good(v) => {
                         at = v.at;
@@ -136,10 +133,10 @@ pub fn fields(
             }
         }
     }
-    Step::Good(Cursor {
+    Ok(Step::Good(Cursor {
         at,
         names,
         rows,
         keyed,
-    })
+    }))
 }

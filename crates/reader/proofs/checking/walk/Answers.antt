@@ -1,4 +1,5 @@
 -- `walk` counts what reading counts: more fields are asked for than there are bytes, so the bytes end first. Assumes nothing.
+use Rattle.std.proofs.lemmas.Result.{err_from_is_err_and}
 use native.Mathlib.Omega.{arith}
 use mathlib.Core.Path.{◌≡◌, sym, ◌∙◌}
 use Prim.Native.Nat.{ℕ, ◌+◌, min}
@@ -23,10 +24,10 @@ pub returns-then-u-eq1 : goal.returns-then-u-eq1
 returns-then-u-eq1 c =
     let args' = c.args in
     let a = args' in
-    let w = rw c.in-End.is at c.fields.ensures.went in
+    let w = rw (c.in_ok-all.was, c.in-End.is) at c.fields.ensures.went in
     λ n m.
     let o = options a.mode n in
-    let r = rw c.in-End.is at (c.fields.ensures.resumes (outside top_fields) o start (sym c.is_strict-strict.ensures)
+    let r = rw (c.in_ok-all.was, c.in-End.is) at (c.fields.ensures.resumes (outside top_fields) o start (sym c.is_strict-strict.ensures)
     (outside_lane top_fields) (stands-start _ _) (row-start o a.most m) top-place) in
     c.fail-then-u-eq1.ensures ∙ top-keyed o a.bytes.now c.if-bytes-gt-MAX_BYTES.false r w.1 (eqb_yes c.if-u-eq1.true)
 
@@ -37,36 +38,37 @@ overflow_sub-most c =
     let a = args' in
     let o = options a.mode a.most in
     let most : min max_rows a.most ≡ a.most = omega (arith, pre') in
-    let r = rw c.in-End.is at (c.fields.ensures.resumes (outside top_fields) o start (sym c.is_strict-strict.ensures)
+    let r = rw (c.in_ok-all.was, c.in-End.is) at (c.fields.ensures.resumes (outside top_fields) o start (sym c.is_strict-strict.ensures)
     (outside_lane top_fields) (stands-start _ _) (row-start o a.most most) top-place) in
     omega (arith, r.row)
 
 pub overflow_sub-left : goal.overflow_sub-left
 overflow_sub-left c =
-    let w = rw c.in-End.is at c.fields.ensures.went in w.3
+    let w = rw (c.in_ok-all.was, c.in-End.is) at c.fields.ensures.went in w.3
 
-pub returns-in-Bad : goal.returns-in-Bad
-returns-in-Bad c =
+pub returns-in_err-all : goal.returns-in_err-all
+returns-in_err-all c =
+    let failed = err_from_is_err_and c.from_residual.result c.from_residual.ensures.1 in
     let args' = c.args in
     let a = args' in
     λ n m.
     let o = options a.mode n in
-    let r = rw c.in-Bad.is at (c.fields.ensures.resumes (outside top_fields) o start
+    let r = rw c.in_err-all.was at (c.fields.ensures.resumes (outside top_fields) o start
     (sym c.is_strict-strict.ensures) (outside_lane top_fields) (stands-start _ _) (row-start o a.most m) top-place) in
-    top-failed o a.bytes.now c.if-bytes-gt-MAX_BYTES.false r
+    rw (failed.1, failed.2) (top-failed o a.bytes.now c.if-bytes-gt-MAX_BYTES.false r)
 
 pub returns-else-u-eq1 : goal.returns-else-u-eq1
 returns-else-u-eq1 c =
     let args' = c.args in
     let a = args' in
-    let w = rw c.in-End.is at c.fields.ensures.went in
+    let w = rw (c.in_ok-all.was, c.in-End.is) at c.fields.ensures.went in
     λ n m.
     let o = options a.mode n in
-    let r = rw c.in-End.is at (c.fields.ensures.resumes (outside top_fields) o start (sym c.is_strict-strict.ensures)
+    let r = rw (c.in_ok-all.was, c.in-End.is) at (c.fields.ensures.resumes (outside top_fields) o start (sym c.is_strict-strict.ensures)
     (outside_lane top_fields) (stands-start _ _) (row-start o a.most m) top-place) in
     rw c.new.ensures (top-good o a.bytes.now c.if-bytes-gt-MAX_BYTES.false r w.1 a.most m w.0.size w.0.few
     (eqb_no c.if-u-eq1.false))
 
 pub returns-in-Good : goal.returns-in-Good
 returns-in-Good c =
-    let w = rw c.in-Good.is at c.fields.ensures.went in absurd (omega (arith, w.1, w.2, c.if-bytes-gt-MAX_BYTES.false))
+    let w = rw (c.in_ok-all.was, c.in-Good.is) at c.fields.ensures.went in absurd (omega (arith, w.1, w.2, c.if-bytes-gt-MAX_BYTES.false))

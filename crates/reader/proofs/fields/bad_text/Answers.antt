@@ -4,10 +4,9 @@ use Prim.Native.Nat.{ℕ, ◌+◌, ◌-◌}
 use native.Mathlib.Omega.{arith}
 use lib.ListN.{take, drop, length-take}
 use Rattle.format.specs.declared.error.Error.TheVariants.{InvalidUtf8}
-use Rattle.format.specs.Answer.{failure}
+use Rattle.format.specs.Answer.{fail}
 use Rattle.format.proofs.Utf8.{bad-within}
 use Rattle.items.specs.Judging.{stop_in}
-use Rattle.reader.specs.declared.fields.Step.TheVariants as step
 use Rattle.reader.proofs.fields.bad_text.Goals as goal
 
 pub overflow_add-place : goal.overflow_add-place
@@ -18,5 +17,4 @@ overflow_add-place c =
 
 pub returns : goal.returns
 unfolding stop_in
-returns c =
-    ap step.Bad (c.new.ensures ∙ ap (λ (i : ℕ). failure InvalidUtf8 (c.args.start + i)) c.bad_at.ensures)
+returns c = c.fail.ensures ∙ ap (λ (i : ℕ). fail InvalidUtf8 (c.args.start + i)) c.bad_at.ensures
