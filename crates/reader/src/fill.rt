@@ -15,7 +15,8 @@ pub fn fill(s: &[u8], table: &mut [u64; SymbolTable::MAX_ENTRIES], rows: &mut [R
     let mut i = 0;
     while i < n {
         w = walk::next(s, table, w);
-        rows[i] = w.row;
+        let r = w.row;
+        rows[i] = Row::new(r.kind, r.number, r.start);
         i += 1;
     }
 }

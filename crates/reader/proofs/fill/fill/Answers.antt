@@ -15,7 +15,7 @@ next-w-requires c = fill_left c.loop-i.invariant.filling c.requires.0 c.loop-i-t
 pub loop-i-preserved : goal.loop-i-preserved
 loop-i-preserved c = record {
   within = omega arith;
-  filling = fill_on c.loop-i.invariant.filling (omega (arith, c.requires.0.room)) c.next-w.ensures;
+  filling = rw c.new.ensures (fill_on c.loop-i.invariant.filling (omega (arith, c.requires.0.room)) c.next-w.ensures);
 }
 
 pub returns : goal.returns
