@@ -1,11 +1,11 @@
--- The second pass, row by row: all that the walk of `fill` knows of the rows. Assumes nothing.
+-- The second pass, row by row: what each turn of `fill` adds to the rows. Assumes nothing.
 use Rattle.std.specs.Prelude.{Err, Ok}
 use mathlib.Core.Path.{◌≡◌, refl, sym, ap, ap₂, ◌∙◌}
-use mathlib.Core.List.{List, [], ◌∷◌, ◌++◌, map}
+use mathlib.Core.List.{List, [], ◌∷◌, ◌++◌, map, append-nil}
 use Prim.Native.Nat.{ℕ, ◌+◌, ◌≤◌, ◌<◌}
 use native.Mathlib.Numerals.{add-one}
 use native.Mathlib.Omega.{arith}
-use lib.ListN.{length, take, drop, set, length-append, length-map, take-append-drop}
+use lib.ListN.{length, take, drop, set, length-append, length-map, length-take, take-append-drop, drop_of_length-le}
 use lib.Seq.{take-suc-set, drop-drop, drop-set-lt}
 use Rattle.format.specs.declared.row.Row.{Row}
 use Rattle.format.specs.Limits.{max_entries}
@@ -118,3 +118,16 @@ module _ {bs : List ℕ} {n i : ℕ} {table : List ℕ} {w : Walked} {old zs : L
           sym (take-append-drop i zs)
           ∙ ap₂ (λ (xs ys : List Row). xs ++ ys) (d.are ∙ ap (λ (v : State). map row_of v.found) p) (g.rest
           ∙ ap (λ (k : ℕ). drop k old) here) ∙ f old
+
+-- ---- the front of a table
+
+-- Filled in the front they are filled in the table.
+pub fills_front : (bs : List ℕ) (n : ℕ) (old : List Row) {zs : List Row} → Fills bs n (take n old) zs → Fills bs n old (zs ++ drop n old)
+fills_front bs n old f o c = ap (λ (l : List Row). l ++ drop n old) (f o c) ∙ go (counted_as o bs c)
+  where
+    go : Counted o bs n → stored (take n old) (rows o bs) ++ drop n old ≡ stored old (rows o bs)
+    go (none z e) = ap (λ (l : List Row). l ++ drop n old) (sym (e (take n old))) ∙ take-append-drop n old ∙ e old
+    go (all u e m g) =
+        let past : drop n (take n old) ≡ [] = drop_of_length-le (take n old) (omega (arith, length-take n old)) in
+        ap (λ (l : List Row). l ++ drop n old)
+        (sym (g (take n old)) ∙ ap (λ (l : List Row). map row_of u.found ++ l) past ∙ append-nil (map row_of u.found)) ∙ g old

@@ -16,7 +16,7 @@ fn filled_in(bytes: &[u8], rows: &mut [Row], n: usize)
     ensures { Fills bytes.now n rows.old rows.new }
 {
     let mut table = SymbolTable::new();
-    fill(bytes, &mut table, rows, n);
+    fill(bytes, &mut table, &mut rows[..n]);
 }
 
 // How many rows may be read into a table.

@@ -1,13 +1,7 @@
--- The first i rows are filled, and the walk stands behind them.
-use Prim.Native.Nat.{◌-◌, ◌≤◌}
+-- The rows before the index are filled, and the walk stands behind them.
+use Rattle.std.proofs.Common.{length}
 use Rattle.reader.proofs.FillSteps.{Filling}
 use Rattle.reader.proofs.fill.fill.Given as goal
 
-abbrev pub invariant-loop-i : goal.invariant-loop-i
-invariant-loop-i l = record {
-  within : l.i ≤ l.n;
-  filling : Filling l.s l.n l.i l.table l.w l.initial.rows l.rows;
-}
-
-abbrev pub decreases-loop-i : goal.decreases-loop-i
-decreases-loop-i l = l.n - l.i
+abbrev pub invariant-loop-row : goal.invariant-loop-row
+invariant-loop-row l = Filling l.s (length l.initial.row-items) l.row-index l.table l.w l.initial.row-items l.row-items
