@@ -9,10 +9,11 @@ use lib.ListN.{length, take, drop, set, length-append, length-map, length-take, 
 use lib.Seq.{take-suc-set, drop-drop, drop-set-lt}
 use Rattle.format.specs.declared.row.Row.{Row}
 use Rattle.format.specs.Limits.{max_entries}
+use Rattle.format.specs.declared.failure.Failure.{Failure}
 use Rattle.format.specs.Answer.{Answer, then, stored}
 use Rattle.format.specs.Reading.{Options, State, counts, counts_of, reading, start}
 use Rattle.format.specs.Rows.{row_of, rows}
-use Rattle.format.proofs.Tests.{order}
+use Rattle.format.proofs.Tests.{failed-good, order}
 use Rattle.format.proofs.Lists.{map-append}
 use Rattle.format.proofs.Bounds.{reads-rows}
 use Rattle.format.proofs.ReadBack.{reading-reads}
@@ -46,6 +47,15 @@ counted-within o bs {n} c = go (counted_as o bs c)
     go : Counted o bs n → n ≤ o.capacity
     go (none z _) = omega arith
     go (all u e m _) = let w = reads-rows (reading-reads {o = o} bs e).1 (omega arith) in omega arith
+
+-- Where reading fails, no row is stored.
+pub unfilled : (o : Options) (bs : List ℕ) {f : Failure} → Err f ≡ counts o bs → (old : List Row) → old ≡ stored old (rows o bs)
+unfolding counts rows then counts_of stored
+unfilled o bs {f} e old = go (reading o bs) refl
+  where
+    go : (r : Answer State) → reading o bs ≡ r → old ≡ stored old (rows o bs)
+    go (Err q) z = rw z refl
+    go (Ok u) z = failed-good (rw z at e)
 
 -- ---- row by row
 

@@ -7,6 +7,7 @@ ghost use Rattle.reader.specs.Answers.{rows_in};
 ghost use Rattle.reader.specs.Filling.{Fillable, Fills};
 ghost use Rattle.reader.specs.Promises.{Read};
 
+use crate::checking::walk;
 use crate::fill::fill;
 use format::{Bundle, Failure, Mode, Row, SymbolTable};
 
@@ -17,33 +18,6 @@ fn filled_in(bytes: &[u8], rows: &mut [Row], n: usize)
 {
     let mut table = SymbolTable::new();
     fill(bytes, &mut table, &mut rows[..n]);
-}
-
-// How many rows may be read into a table.
-fn most(capacity: usize) -> usize
-    ensures { (result ≡ min max_rows capacity) × (result ≤ max_rows) }
-{
-    if Row::MAX_COUNT <= capacity {
-        return Row::MAX_COUNT;
-    }
-    capacity
-}
-
-// The counts of a bundle that is read into a table.
-fn counted(bytes: &[u8], mode: Mode, capacity: usize) -> Result<Bundle, Failure>
-    ensures { result ≡ counts (options mode capacity) bytes.now }
-{
-    crate::checking::walk(bytes, mode, most(capacity))
-}
-
-// How many rows are to be filled in.
-fn count_of(answer: Result<Bundle, Failure>) -> usize
-    ensures { result ≡ rows_in answer }
-{
-    match answer {
-        Ok(b) => b.rows,
-        Err(_) => 0,
-    }
 }
 
 // Reads a bundle leniently.
@@ -57,7 +31,7 @@ pub fn read(bytes: &[u8], rows: &mut [Row]) -> Result<Bundle, Failure>
 pub fn read_in(bytes: &[u8], mode: Mode, rows: &mut [Row]) -> Result<Bundle, Failure>
     ensures { Read mode bytes.now rows.old result rows.new }
 {
-    let answer = counted(bytes, mode, rows.len());
-    filled_in(bytes, rows, count_of(answer));
-    answer
+    let bundle = walk(bytes, mode, rows.len().min(Row::MAX_COUNT))?;
+    filled_in(bytes, rows, bundle.rows);
+    Ok(bundle)
 }
