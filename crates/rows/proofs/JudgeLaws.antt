@@ -1,5 +1,5 @@
 -- One row judged: which rule refuses it, and what is known after it. Assumes nothing.
-use Rattle.std.specs.Prelude.{Option, None, Some, Err}
+use Rattle.std.specs.Prelude.{Option, None, Some, Ok, Err}
 use mathlib.Core.Path.{◌≡◌, refl, ap, sym, subst, ◌∙◌}
 use mathlib.Core.Logic.{◌≢◌}
 use mathlib.Core.Bool.{true, false, not, ◌&&◌}
@@ -14,9 +14,8 @@ use Rattle.format.specs.declared.error.Error.{Error}
 use Rattle.format.specs.declared.failure.Failure.{Failure}
 use Rattle.format.specs.declared.error.Error.TheVariants.{InvalidRow, InvalidUtf8, TooDeep, TooManyEntries, UnexpectedKey}
 use Rattle.format.specs.Choice.{pick}
-use Rattle.format.specs.Error.{code_of}
 use Rattle.format.specs.Kind as Kind
-use Rattle.format.specs.Answer.{failure, failure_beside, rule, first, unless, then}
+use Rattle.format.specs.Answer.{Answer, fail, failure, failure_beside, rule, first, unless, then}
 use Rattle.format.specs.Utf8.{bad_at, utf8}
 use Rattle.format.specs.Item.{Item, is_text, is_name, is_key, is_container}
 use Rattle.format.specs.Canonical.{full}
@@ -32,9 +31,9 @@ use Rattle.symbols.proofs.ChainLaws.{length-names}
 use Rattle.format.proofs.Lists.{map-append, all_append}
 use Rattle.rows.specs.declared.state.State.{State}
 use Rattle.rows.specs.Stack.{bottom, Stands}
-use Rattle.rows.specs.Steps.{refused, valued, keyed_by, named_by, opened_by}
+use Rattle.rows.specs.Steps.{valued, keyed_by, named_by, opened_by}
 use Rattle.encoder.specs.Plan.{Measured}
-use Rattle.rows.specs.Judging.{After, Next, PlainError, Ready, RowError, failure_in, invalid_row, invalid_utf8, plain, too_deep, too_many_entries, unexpected_key}
+use Rattle.rows.specs.Judging.{After, Next, Ready, refused, taken}
 use Rattle.rows.proofs.StackLaws.{opened-length, stands-value, stands-key, stands_open}
 use Rattle.encoder.proofs.MeasureLaws.{names_more, measure_plain}
 
@@ -80,27 +79,6 @@ module _ (text : List ℕ) (p : Progress) (r : Row) where
 
 -- ---- one row more
 
--- no error has number 0
-numbered : {e : Error} → RowError e → code_of e ≡ 0 → ⊥
-numbered (plain invalid_row) z = omega arith
-numbered (plain unexpected_key) z = omega arith
-numbered (plain too_deep) z = omega arith
-numbered (plain too_many_entries) z = omega arith
-numbered invalid_utf8 z = omega arith
-
--- only 3 is at the size
-at_row : {e : Error} → PlainError e → (s : State) (size : ℕ) → failure_in e (refused s (code_of e) size) ≡ failure e s.row
-unfolding failure_in refused pick
-at_row invalid_row s size = refl
-at_row unexpected_key s size = refl
-at_row too_deep s size = refl
-at_row too_many_entries s size = refl
-
-at_size : (s : State) (size : ℕ)
-    → failure_in InvalidUtf8 (refused s (code_of InvalidUtf8) size) ≡ failure_beside InvalidUtf8 size s.row
-unfolding failure_in refused pick
-at_size s size = refl
-
 module _ (text : List ℕ) (p : Progress) (r : Row) where
   judged_bad : (f : Failure) → first (row_rules text p r) ≡ Some f → (rest : List Row) → judge text p (r ∷ rest) ≡ Err f
   unfolding judge then unless
@@ -117,53 +95,30 @@ module _ (text : List ℕ) (p : Progress) (r : Row) where
 
 module _ {text es links st plan : List ℕ} {xs : List Row} {s : State} (a : After text es links st plan xs s) (r : Row) where
   -- it is refused, whatever became of the tables
-  refuse_at : {es' links' st' plan' : List ℕ} {e : Error} (k : RowError e) (size : ℕ) {t : State}
-      → t ≡ refused s (code_of e) size → first (row_rules text a.progress r) ≡ Some (failure_in e (refused s (code_of e) size))
-      → Next text es' links' st' plan' xs r s t
-  unfolding refused
-  refuse_at {e = e} k size q rules =
+  pub refuse_next : {es' links' st' plan' : List ℕ} (e : Error) {t : Answer State} → t ≡ fail e s.row
+      → first (row_rules text a.progress r) ≡ Some (failure e a.progress.row) → Next text es' links' st' plan' xs r s t
+  unfolding fail
+  refuse_next e q rules =
       rw q
-      (record {
-        taken = λ z. absurd (numbered k z);
-        refused = λ _. (
-          refl,
-          λ rest. record {
-            error = e;
-            of_row = k;
-            number = refl;
-            is = a.run (r ∷ rest) ∙ judged_bad text a.progress r _ rules rest;
-          },
-        );
-      })
-
-  -- at its number
-  pub refuse_next : {es' links' st' plan' : List ℕ} {e : Error} (k : PlainError e) {t : State}
-      → t ≡ refused s (code_of e) s.size → first (row_rules text a.progress r) ≡ Some (failure e a.progress.row)
-      → Next text es' links' st' plan' xs r s t
-  refuse_next {e = e} k q rules =
-      refuse_at (plain k) s.size q (rules ∙ ap Some (ap (failure e) a.row ∙ sym (at_row k s s.size)))
+      (refused (λ rest. a.run (r ∷ rest) ∙ judged_bad text a.progress r _ (rules ∙ ap (λ (n : ℕ). Some (failure e n)) a.row) rest))
 
   -- for a text that is not UTF-8, at an offset in the text
-  pub refuse_text_next : {es' links' st' plan' part : List ℕ} {t : State} → part ≡ content_of text r
-      → t ≡ refused s (code_of InvalidUtf8) (r.start + bad_at part)
-      → first (row_rules text a.progress r) ≡ bad_text text r a.progress.row → Next text es' links' st' plan' xs r s t
+  pub refuse_text_next : {es' links' st' plan' part : List ℕ} {f : Failure} → part ≡ content_of text r
+      → f ≡ failure_beside InvalidUtf8 (r.start + bad_at part) s.row
+      → first (row_rules text a.progress r) ≡ bad_text text r a.progress.row → Next text es' links' st' plan' xs r s (Err f)
   refuse_text_next e q rules =
-      let at = r.start + bad_at (content_of text r) in
-      refuse_at invalid_utf8 at
-      (q ∙ ap (λ (bs : List ℕ). refused s (code_of InvalidUtf8) (r.start + bad_at bs)) e)
-      (rules ∙ ap (bad_text text r) a.row ∙ ap Some (sym (at_size s at)))
+      rw (q, e) (refused (λ rest. a.run (r ∷ rest) ∙ judged_bad text a.progress r _ (rules ∙ ap (bad_text text r) a.row) rest))
 
   -- it is taken
   pub take_next : {es' links' st' plan' : List ℕ} (t : State) → first (row_rules text a.progress r) ≡ None
-      → t.error ≡ 0 → t.row ≡ s.row + 1 → t.end ≡ s.end → t.size ≤ s.size + max_item
+      → t.row ≡ s.row + 1 → t.size ≤ s.size + max_item
       → Stands st' t.depth t.left t.keyed t.row (moved a.progress.place (item_at text r))
       → Measured plan_size text text es' links' plan' (a.progress.items ++ (item_at text r ∷ [])) t.names t.size
-      → Next text es' links' st' plan' xs r s t
+      → Next text es' links' st' plan' xs r s (Ok t)
   unfolding with_item
-  take_next t rules e0 er ee small stands measured =
-      record {
-        taken = λ _. (
-          record {
+  take_next t rules er small stands measured =
+      taken
+      (record {
             progress = with_item a.progress x;
             run = λ rest. ap (judge text begin) (append_assoc xs (r ∷ []) rest) ∙ a.run (r ∷ rest)
                 ∙ judged_good text a.progress r rules rest;
@@ -175,17 +130,14 @@ module _ {text es links st plan : List ℕ} {xs : List Row} {s : State} (a : Aft
             small = omega (arith, a.small);
             stands = stands;
             measured = measured;
-          },
-          (er, ee),
-        );
-        refused = λ nz. absurd (nz e0);
-      }
+      })
+      er
     where
       x : Item
       x = item_at text r
 
 -- The same for an equal row.
-pub next_row : {text es links st plan : List ℕ} {xs : List Row} {q r : Row} {s t : State} → q ≡ r
+pub next_row : {text es links st plan : List ℕ} {xs : List Row} {q r : Row} {s : State} {t : Answer State} → q ≡ r
     → Next text es links st plan xs q s t → Next text es links st plan xs r s t
 next_row {text} {es} {links} {st} {plan} {xs} {q} {r} {s} {t} e = subst (λ (z : Row). Next text es links st plan xs z s t) e
 
@@ -200,20 +152,20 @@ module _ {text es links st plan : List ℕ} {xs : List Row} {s : State} (a : Aft
       → first (row_rules text a.progress r) ≡ None → is_key (item_at text r) ≡ false → is_container (item_at text r)
       && ltb 0 r.number ≡ false
       → Measured plan_size text text es' links' plan' (a.progress.items ++ (item_at text r ∷ [])) c (s.size + n)
-      → Next text es' links' st plan' xs r s t
+      → Next text es' links' st plan' xs r s (Ok t)
   unfolding valued item_at
-  value-next c n e lt l rules key box m = rw e (take_next a r (valued st s c n) rules refl refl refl (omega arith)
+  value-next c n e lt l rules key box m = rw e (take_next a r (valued st s c n) rules refl (omega arith)
       (stands-value a.stands (item_at text r) lt key box) m)
 
   pub named-next : {es' links' plan' : List ℕ} (c n : ℕ) {t : State} → t ≡ named_by st s r.kind c n
       → s.row < max_rows → n ≤ max_item → r.kind ≢ Kind.container
       → first (row_rules text a.progress r) ≡ None
       → Measured plan_size text text es' links' plan' (a.progress.items ++ (item_at text r ∷ [])) c (s.size + n)
-      → Next text es' links' st plan' xs r s t
+      → Next text es' links' st plan' xs r s (Ok t)
   unfolding named_by keyed_by item_at is_key is_container
   named-next c n e lt l box rules m =
       cases (eqb r.kind Kind.key)
-      (λ k. rw (e ∙ pick_yes _ _ k) (take_next a r (keyed_by s c n) rules refl refl refl (omega arith)
+      (λ k. rw (e ∙ pick_yes _ _ k) (take_next a r (keyed_by s c n) rules refl (omega arith)
       (stands-key a.stands (item_at text r) k) m))
       (λ k. value-next c n (e ∙ pick_no _ _ k) lt l rules k (and_no_left _ (eqb_no box)) m)
 
@@ -222,10 +174,10 @@ module _ {text es links st plan : List ℕ} {xs : List Row} {s : State} (a : Aft
       → first (row_rules text a.progress r) ≡ None → is_key (item_at text r) ≡ false → is_container (item_at text r)
       && ltb 0 r.number ≡ true
       → Measured plan_size text text es links plan (a.progress.items ++ (item_at text r ∷ [])) s.names (s.size + n)
-      → Next text es links st' plan xs r s t
+      → Next text es links st' plan xs r s (Ok t)
   unfolding opened_by item_at
   open_next n e f lt l rules key box m = rw (e, f)
-      (take_next a r (opened_by s r.number n) rules refl refl refl (omega arith)
+      (take_next a r (opened_by s r.number n) rules refl (omega arith)
       (stands_open a.stands (item_at text r) key box lt) m)
 
   -- ---- what the rules ask

@@ -5,36 +5,22 @@ use Rattle.format.specs.Kind as Kind
 use Rattle.rows.specs.declared.state.State.{State}
 use Rattle.rows.specs.Stack.{closed}
 
--- after an error, with a size
-unfoldable pub refused : State → ℕ → ℕ → State
-refused s e size = record {
-  row = s.row;
-  end = s.row;
-  depth = s.depth;
-  left = s.left;
-  keyed = 0;
-  names = s.names;
-  size = size;
-  error = e;
-}
-
 -- after a value of n bytes
 unfoldable pub valued : List ℕ → State → ℕ → ℕ → State
 valued st s names n =
     let to = closed st s.depth s.left in
-    record { row = s.row + 1; end = s.end; depth = to.depth; left = to.left; keyed = 0; names = names; size = s.size + n; error = 0 }
+    record { row = s.row + 1; depth = to.depth; left = to.left; keyed = 0; names = names; size = s.size + n }
 
 -- after a key of n bytes
 unfoldable pub keyed_by : State → ℕ → ℕ → State
 keyed_by s names n = record {
   row = s.row + 1;
-  end = s.end;
+ 
   depth = s.depth;
   left = s.left;
   keyed = 1;
   names = names;
   size = s.size + n;
-  error = 0;
 }
 
 -- after a name of n bytes
@@ -45,11 +31,10 @@ named_by st s kind names n = pick (eqb kind Kind.key) (keyed_by s names n) (valu
 unfoldable pub opened_by : State → ℕ → ℕ → State
 opened_by s fields n = record {
   row = s.row + 1;
-  end = s.end;
+ 
   depth = s.depth + 1;
   left = fields;
   keyed = 0;
   names = s.names;
   size = s.size + n;
-  error = 0;
 }

@@ -14,9 +14,9 @@ ghost use Rattle.rows.specs.Steps.{named_by};
 
 use crate::item::{content, outside};
 use crate::place::named;
-use crate::state::{State, refuse, refuse_text};
+use crate::state::{State, invalid_text};
 use encoder::putting::Reference;
-use format::{Bundle, Error, Header, Row, SymbolTable};
+use format::{Bundle, Error, Failure, Header, Row, SymbolTable, fail};
 use symbols::entry::{is_part, key_of};
 use symbols::lookup::{Links, Noted, note};
 use utf8::is_utf8;
@@ -122,7 +122,7 @@ fn looked_up(
     plan: &mut [u16; Plan::SIZE],
     s: State,
     row: Row,
-) -> State
+) -> Result<State, Failure>
     requires { Ready text.now stack.now s × Naming text.now s row
         × Chained text.now text.now entries.old links.old s.names × (length plan.old ≡ plan_size) }
     ensures { (xs : List Row) → After text.now entries.old links.old
@@ -131,16 +131,16 @@ fn looked_up(
 {
     let part = content(text, row);
     if !is_utf8(part) {
-        return refuse_text(s, row.start, part);
+        return Err(invalid_text(s, row.start, part));
     }
     let kind = row.kind;
     let key = key_of(kind, part);
     let names = s.names;
     let start = row.start;
     match note(text, text, entries, links, names, kind, key, 0, start, part) {
-        Noted::Known(i) => known(stack, plan, s, kind, i as u16),
-        Noted::Entered => fresh(stack, plan, s, row),
-        Noted::Full => refuse(s, Error::TooManyEntries),
+        Noted::Known(i) => Ok(known(stack, plan, s, kind, i as u16)),
+        Noted::Entered => Ok(fresh(stack, plan, s, row)),
+        Noted::Full => fail(Error::TooManyEntries, s.row),
     }
 }
 
@@ -153,7 +153,7 @@ pub fn name_row(
     plan: &mut [u16; Plan::SIZE],
     s: State,
     row: Row,
-) -> State
+) -> Result<State, Failure>
     requires { Ready text.now stack.now s × (Kind.symbol ≤ row.kind)
         × Chained text.now text.now entries.old links.old s.names × (length plan.old ≡ plan_size) }
     ensures { (xs : List Row) → After text.now entries.old links.old
@@ -161,16 +161,16 @@ pub fn name_row(
         → Next text.now entries.new links.new stack.now plan.new xs row s result }
 {
     if is_bad(text.len(), row) {
-        return refuse(s, Error::InvalidRow);
+        return fail(Error::InvalidRow, s.row);
     }
     let kind = row.kind;
     if key_after_key(s.keyed, kind) {
-        return refuse(s, Error::UnexpectedKey);
+        return fail(Error::UnexpectedKey, s.row);
     }
     let start = row.start;
     let guess = plan[Plan::GUESSES + start % Plan::MODULUS];
     if is_entry(entries, s.names, guess, kind, start, row.number) {
-        return known(stack, plan, s, kind, guess);
+        return Ok(known(stack, plan, s, kind, guess));
     }
     looked_up(text, entries, links, stack, plan, s, row)
 }

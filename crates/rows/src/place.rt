@@ -40,13 +40,11 @@ pub fn value(stack: &[u64; Bundle::MAX_DEPTH], s: State, names: usize, n: usize)
     let to = close(stack, s.depth, s.left);
     State {
         row: s.row + 1,
-        end: s.end,
         depth: to.depth,
         left: to.left,
         keyed: 0,
         names,
         size: s.size + n,
-        error: 0,
     }
 }
 
@@ -59,13 +57,11 @@ pub fn named(stack: &[u64; Bundle::MAX_DEPTH], s: State, kind: u8, names: usize,
     if kind == Row::KEY {
         return State {
             row: s.row + 1,
-            end: s.end,
             depth: s.depth,
             left: s.left,
             keyed: 1,
             names,
             size: s.size + n,
-            error: 0,
         };
     }
     value(stack, s, names, n)
@@ -81,12 +77,10 @@ pub fn descend(stack: &mut [u64; Bundle::MAX_DEPTH], s: State, fields: u64, n: u
     stack[depth] = s.left;
     State {
         row: s.row + 1,
-        end: s.end,
         depth: depth + 1,
         left: fields,
         keyed: 0,
         names: s.names,
         size: s.size + n,
-        error: 0,
     }
 }

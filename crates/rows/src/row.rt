@@ -10,14 +10,14 @@ ghost use Rattle.rows.specs.Judging.{After, Next, Ready};
 use crate::item::{bad_number, content, has_content, outside, plain_len};
 use crate::name::{Plan, name_row};
 use crate::place::{descend, value};
-use crate::state::{State, refuse, refuse_text};
-use format::{Bundle, Error, Header, Row, SymbolTable};
+use crate::state::{State, invalid_text};
+use format::{Bundle, Error, Failure, Header, Row, SymbolTable, fail};
 use symbols::lookup::Links;
 use wire::header::{code_of, header_len};
 use wire::rules::bad_text;
 
 // Bytes or a string.
-fn content_row(text: &[u8], stack: &[u64; Bundle::MAX_DEPTH], s: State, row: Row) -> State
+fn content_row(text: &[u8], stack: &[u64; Bundle::MAX_DEPTH], s: State, row: Row) -> Result<State, Failure>
     requires { Ready text.now stack.now s × (row.kind < Kind.symbol) × (has_content row.kind ≡ true) }
     ensures { (es links plan : List ℕ) (xs : List Row)
         → After text.now es links stack.now plan xs s
@@ -25,43 +25,43 @@ fn content_row(text: &[u8], stack: &[u64; Bundle::MAX_DEPTH], s: State, row: Row
 {
     let number = row.number;
     if outside(text.len(), row.start, number) {
-        return refuse(s, Error::InvalidRow);
+        return fail(Error::InvalidRow, s.row);
     }
     let kind = row.kind;
     let part = content(text, row);
     if bad_text(kind == Row::STRING, part) {
-        return refuse_text(s, row.start, part);
+        return Err(invalid_text(s, row.start, part));
     }
     let n = header_len(code_of(kind), number) + number as usize;
-    value(stack, s, s.names, n)
+    Ok(value(stack, s, s.names, n))
 }
 
 // A container, which has no content.
-fn container_row(stack: &mut [u64; Bundle::MAX_DEPTH], s: State, number: u64) -> State
+fn container_row(stack: &mut [u64; Bundle::MAX_DEPTH], s: State, number: u64) -> Result<State, Failure>
     requires { (text : List ℕ) × Ready text stack.old s }
     ensures { (text es links plan : List ℕ) (xs : List Row) → After text es links stack.old plan xs s
         → Next text es links stack.new plan xs (record { kind = Kind.container; number = number; start = 0 }) s result }
 {
     if Bundle::MAX_DEPTH <= s.depth {
-        return refuse(s, Error::TooDeep);
+        return fail(Error::TooDeep, s.row);
     }
     let n = header_len(Header::CONTAINER, number);
     if number == 0 {
-        return value(stack, s, s.names, n);
+        return Ok(value(stack, s, s.names, n));
     }
-    descend(stack, s, number, n)
+    Ok(descend(stack, s, number, n))
 }
 
 // A row that is no container and has no content.
-fn plain_row(stack: &[u64; Bundle::MAX_DEPTH], s: State, kind: u8, number: u64) -> State
+fn plain_row(stack: &[u64; Bundle::MAX_DEPTH], s: State, kind: u8, number: u64) -> Result<State, Failure>
     requires { ((text : List ℕ) × Ready text stack.now s) × (kind < Kind.container) × (has_content kind ≡ false) }
     ensures { (text es links plan : List ℕ) (xs : List Row) → After text es links stack.now plan xs s
         → Next text es links stack.now plan xs (record { kind = kind; number = number; start = 0 }) s result }
 {
     if bad_number(kind, number) {
-        return refuse(s, Error::InvalidRow);
+        return fail(Error::InvalidRow, s.row);
     }
-    value(stack, s, s.names, plain_len(kind, number))
+    Ok(value(stack, s, s.names, plain_len(kind, number)))
 }
 
 // One row more.
@@ -73,7 +73,7 @@ pub fn step(
     plan: &mut [u16; Plan::SIZE],
     s: State,
     row: Row,
-) -> State
+) -> Result<State, Failure>
     requires { Ready text.now stack.old s × Chained text.now text.now entries.old links.old s.names
         × (length plan.old ≡ plan_size) }
     ensures { (xs : List Row) → After text.now entries.old links.old
@@ -88,7 +88,7 @@ pub fn step(
         return content_row(text, stack, s, row);
     }
     if 0 < row.start {
-        return refuse(s, Error::InvalidRow);
+        return fail(Error::InvalidRow, s.row);
     }
     if kind == Row::CONTAINER {
         return container_row(stack, s, row.number);

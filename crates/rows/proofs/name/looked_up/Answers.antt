@@ -1,10 +1,10 @@
 -- `rows::name::looked_up` meets its contract: no UTF-8, known, new, or one name too many. Assumes nothing.
+use Rattle.format.specs.declared.error.Error.TheVariants.{TooManyEntries}
 use native.Mathlib.Omega.{arith}
 use mathlib.Core.Path.{ap, sym, ◌∙◌}
 use mathlib.Core.Bool.{not}
 use Rattle.format.specs.Utf8.{utf8}
 use Rattle.rows.proofs.RowLaws.{content-end, inside, kind-most}
-use Rattle.rows.specs.Judging.{too_many_entries}
 use Rattle.rows.proofs.JudgeLaws.{refuse_next, refuse_text_next}
 use Rattle.rows.proofs.KindLaws.{name_invalid, fresh-full}
 use Rattle.rows.proofs.NameLaws.{has_content_lem, name-stands, looked_up, among, known_next, fresh-next}
@@ -13,15 +13,15 @@ use Rattle.rows.proofs.name.looked_up.Goals as goal
 pub content-part-requires : goal.content-part-requires
 content-part-requires c = (c.requires.0.short, c.requires.1.fine, has_content_lem c.args.text.now c.args.row c.requires.1.name c.requires.1.fine)
 
-pub refuse_text-requires : goal.refuse_text-requires
-refuse_text-requires c =
+pub invalid_text-requires : goal.invalid_text-requires
+invalid_text-requires c =
     content-end _ c.args.row c.requires.1.fine (has_content_lem _ c.args.row c.requires.1.name c.requires.1.fine)
     c.content-part.ensures c.requires.0.short
 
 pub returns-then-not-is_utf8 : goal.returns-then-not-is_utf8
 returns-then-not-is_utf8 c = λ xs a.
     let w = c.requires.1 in
-    refuse_text_next a c.args.row c.content-part.ensures c.refuse_text.ensures
+    refuse_text_next a c.args.row c.content-part.ensures c.invalid_text.ensures
     (name_invalid a c.args.row w.name w.fine w.alone
     (ap not (ap utf8 (sym c.content-part.ensures)
     ∙ sym c.is_utf8.ensures) ∙ ap not c.if-not-is_utf8.true))
@@ -72,4 +72,4 @@ returns-in-Full c = λ xs a.
     ∙ sym c.is_utf8.ensures
     ∙ c.if-not-is_utf8.false in
     let e = looked_up a r w c.requires.0 c.content-part.ensures n.0 in
-    refuse_next a r too_many_entries c.refuse.ensures (fresh-full a r w.name w.fine w.alone (among a r w c.requires.0 e) u n.1)
+    refuse_next a r TooManyEntries c.fail.ensures (fresh-full a r w.name w.fine w.alone (among a r w c.requires.0 e) u n.1)

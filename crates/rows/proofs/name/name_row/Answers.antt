@@ -1,8 +1,8 @@
 -- `rows::name::name_row` meets its contract: refused by 9 or 5, guessed, or looked up. Assumes nothing.
+use Rattle.format.specs.declared.error.Error.TheVariants.{InvalidRow, UnexpectedKey}
 use native.Mathlib.Omega.{arith}
 use mathlib.Core.Path.{sym, ◌∙◌}
 use Rattle.rows.proofs.RowLaws.{content-text, bad-content, inside, kind-most}
-use Rattle.rows.specs.Judging.{invalid_row, unexpected_key}
 use Rattle.rows.proofs.JudgeLaws.{rule_9, refuse_next}
 use Rattle.rows.proofs.KindLaws.{name-again}
 use Rattle.rows.proofs.NameLaws.{guessed, known_next}
@@ -13,7 +13,7 @@ returns-then-is_bad c = λ xs a.
     let r = c.args.row in
     let text = c.args.text.now in
     let name = c.requires.1 in
-    refuse_next a r invalid_row c.refuse.ensures
+    refuse_next a r InvalidRow c.fail.ensures
     (rule_9 text a.progress r (bad-content text r (content-text r.kind (omega arith))
     ∙ sym c.is_bad.ensures ∙ c.if-is_bad.true))
 
@@ -24,7 +24,7 @@ returns-then-key_after_key c = λ xs a.
     let name = c.requires.1 in
     let fine = bad-content text r (content-text r.kind (omega arith))
     ∙ sym c.is_bad.ensures ∙ c.if-is_bad.false in
-    refuse_next a r unexpected_key c.refuse-then-key_after_key.ensures
+    refuse_next a r UnexpectedKey c.fail-then-key_after_key.ensures
     (name-again a r name fine (sym c.key_after_key.ensures ∙ c.if-key_after_key.true))
 
 pub is_entry-requires : goal.is_entry-requires

@@ -1,10 +1,10 @@
 -- `rows::row::container_row` meets its contract: too deep, with no fields, or with some. Assumes nothing.
+use Rattle.format.specs.declared.error.Error.TheVariants.{TooDeep}
 use native.Mathlib.Omega.{arith}
 use mathlib.Core.Path.{refl, ◌∙◌}
 use Rattle.format.specs.declared.row.Row.{Row}
 use Rattle.format.proofs.Tests.{ltb_yes, ltb_no}
 use Rattle.encoder.proofs.Lengths.{header-most}
-use Rattle.rows.specs.Judging.{too_deep}
 use Rattle.rows.proofs.JudgeLaws.{ready_more, refuse_next, value-next, open_next, no_key, a_container, measured-plain}
 use Rattle.rows.proofs.KindLaws.{plain-deep, container-none, container-fine, container-full}
 use Rattle.rows.proofs.row.container_row.Goals as goal
@@ -12,7 +12,7 @@ use Rattle.rows.proofs.row.container_row.Goals as goal
 pub returns-then-s-ge-MAX_DEPTH : goal.returns-then-s-ge-MAX_DEPTH
 returns-then-s-ge-MAX_DEPTH c = λ text es links plan xs a.
     let r : Row = record { kind = 8; number = c.args.number; start = 0 } in
-    refuse_next a r too_deep c.refuse.ensures
+    refuse_next a r TooDeep c.fail.ensures
     (plain-deep a r (omega arith) (container-fine text r.number) refl c.if-s-ge-MAX_DEPTH.true)
 
 pub value-requires : goal.value-requires

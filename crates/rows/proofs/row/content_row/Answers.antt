@@ -1,11 +1,11 @@
 -- `rows::row::content_row` meets its contract: outside the text, no UTF-8, or taken. Assumes nothing.
+use Rattle.format.specs.declared.error.Error.TheVariants.{InvalidRow}
 use native.Mathlib.Omega.{arith}
 use mathlib.Core.Path.{ap, sym, ◌∙◌}
 use mathlib.Core.Bool.{not, ◌&&◌}
 use lib.Dec.{eqb}
 use Rattle.format.specs.Utf8.{utf8}
 use Rattle.rows.proofs.RowLaws.{content-end, content-kinds}
-use Rattle.rows.specs.Judging.{invalid_row}
 use Rattle.rows.proofs.JudgeLaws.{rule_9, ready_more, refuse_next, refuse_text_next, value-next, no_key, no_container, measured-plain}
 use Rattle.rows.proofs.KindLaws.{content-bad, content-full, content-small, plain-text, value_none}
 use Rattle.rows.proofs.row.content_row.Goals as goal
@@ -14,15 +14,15 @@ pub returns-then-outside : goal.returns-then-outside
 returns-then-outside c = λ es links plan xs a.
     let r = c.args.row in
     let text = c.args.text.now in
-    refuse_next a r invalid_row c.refuse.ensures
+    refuse_next a r InvalidRow c.fail.ensures
     (rule_9 text a.progress r (content-bad text r c.requires.2 (omega (arith, c.requires.1))
     ∙ sym c.outside.ensures ∙ c.if-outside.true))
 
 pub content-part-requires : goal.content-part-requires
 content-part-requires c = (c.requires.0.short, content-bad _ c.args.row c.requires.2 (omega (arith, c.requires.1)) ∙ sym c.outside.ensures ∙ c.if-outside.false, c.requires.2)
 
-pub refuse_text-requires : goal.refuse_text-requires
-refuse_text-requires c =
+pub invalid_text-requires : goal.invalid_text-requires
+invalid_text-requires c =
     let fine = content-bad _ c.args.row c.requires.2 (omega (arith, c.requires.1))
     ∙ sym c.outside.ensures ∙ c.if-outside.false in
     content-end _ c.args.row fine c.requires.2 c.content-part.ensures c.requires.0.short
@@ -33,7 +33,7 @@ returns-then-bad_text c = λ es links plan xs a.
     let text = c.args.text.now in
     let fine = content-bad text r c.requires.2 (omega (arith, c.requires.1))
     ∙ sym c.outside.ensures ∙ c.if-outside.false in
-    refuse_text_next a r c.content-part.ensures c.refuse_text.ensures
+    refuse_text_next a r c.content-part.ensures c.invalid_text.ensures
     (plain-text a r c.requires.1 fine (content-kinds r.kind c.requires.2).1.1
     (ap (λ bs. eqb r.kind 9 && not (utf8 bs)) (sym c.content-part.ensures)
     ∙ sym c.bad_text.ensures ∙ c.if-bad_text.true))

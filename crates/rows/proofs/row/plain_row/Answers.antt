@@ -1,4 +1,5 @@
 -- `rows::row::plain_row` meets its contract: rule 9 is about its number alone. Assumes nothing.
+use Rattle.format.specs.declared.error.Error.TheVariants.{InvalidRow}
 use native.Mathlib.Omega.{arith}
 use mathlib.Core.Path.{refl, ap, sym, ◌∙◌}
 use Rattle.format.specs.Canonical.{full}
@@ -6,7 +7,6 @@ use lib.ListN.{length}
 use Rattle.format.specs.declared.row.Row.{Row}
 use Rattle.format.proofs.Tests.{eqb_no, and_no_left}
 use Rattle.rows.proofs.RowLaws.{bad-plain}
-use Rattle.rows.specs.Judging.{invalid_row}
 use Rattle.rows.proofs.JudgeLaws.{rule_9, refuse_next, value-next, no_container, no_key, measured-plain}
 use Rattle.rows.proofs.KindLaws.{value_none, bare}
 use Rattle.rows.proofs.row.plain_row.Goals as goal
@@ -15,7 +15,7 @@ pub returns-then-bad_number : goal.returns-then-bad_number
 returns-then-bad_number c = λ text es links plan xs a.
     let r : Row = record { kind = c.args.kind; number = c.args.number; start = 0 } in
     let bad = bad-plain text r (omega arith) c.requires.2 refl ∙ sym c.bad_number.ensures ∙ c.if-bad_number.true in
-    refuse_next a r invalid_row c.refuse.ensures (rule_9 text a.progress r bad)
+    refuse_next a r InvalidRow c.fail.ensures (rule_9 text a.progress r bad)
 
 pub returns : goal.returns
 returns c = λ text es links plan xs a.

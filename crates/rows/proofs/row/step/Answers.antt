@@ -1,8 +1,8 @@
 -- `rows::row::step` meets its contract, kind by kind. Assumes nothing.
+use Rattle.format.specs.declared.error.Error.TheVariants.{InvalidRow}
 use native.Mathlib.Omega.{arith}
 use mathlib.Core.Path.{refl, sym, ◌∙◌}
 use Rattle.rows.proofs.RowLaws.{row_is, content-none, bad-start}
-use Rattle.rows.specs.Judging.{invalid_row}
 use Rattle.rows.proofs.JudgeLaws.{rule_9, refuse_next, next_row}
 use Rattle.rows.proofs.row.step.Goals as goal
 
@@ -15,7 +15,7 @@ returns-then-has_content c = λ xs a. c.content_row.ensures _ _ _ xs a
 pub returns-then-row-gt0 : goal.returns-then-row-gt0
 returns-then-row-gt0 c = λ xs a.
     let r = c.args.row in
-    refuse_next a r invalid_row c.refuse.ensures
+    refuse_next a r InvalidRow c.fail.ensures
     (rule_9 _ a.progress r
     (bad-start _ r (sym c.has_content.ensures
     ∙ c.if-has_content.false) c.if-row-gt0.true))
