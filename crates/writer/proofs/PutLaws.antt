@@ -1,5 +1,6 @@
 -- Rows written one after the other as they were planned. Assumes nothing.
 use Rattle.std.specs.Prelude.{Ok}
+use Rattle.std.proofs.lemmas.List.{take_all}
 use mathlib.Core.Path.{◌≡◌, refl, ap, ◌∙◌}
 use mathlib.Core.Bool.{false}
 use mathlib.Core.List.{List, [], ◌∷◌, ◌++◌}
@@ -8,7 +9,7 @@ use native.Mathlib.Nat.{lt_of_lt_of_le}
 use native.Mathlib.Numerals.{add-one}
 use native.Mathlib.Omega.{arith}
 use lib.ListN.{length, take, drop, get_or, length-map}
-use lib.Seq.{take-take, get_or-take, length-take-le, split_at, take-suc}
+use lib.Seq.{length-take-le, split_at, take-suc}
 use Rattle.format.specs.declared.row.Row.{Row}
 use Rattle.format.specs.Answer.{stored}
 use Rattle.format.specs.Item.{Item}
@@ -27,8 +28,8 @@ use Rattle.writer.specs.Putting.{Putting}
 use Rattle.format.specs.Rows.{blank}
 
 -- row i, after those before it
-module _ (text plan : List ℕ) (rows : List Row) (n capacity : ℕ) (p : Putting text plan (take n rows) capacity)
-    (le : n ≤ length rows) (i : ℕ) (lt : i < n) where
+module _ (text plan : List ℕ) (rows : List Row) (capacity : ℕ) (p : Putting text plan rows capacity) (i : ℕ)
+    (lt : i < length rows) where
   abbrev xs : List Item
   xs = items_at text (take i rows)
 
@@ -36,13 +37,12 @@ module _ (text plan : List ℕ) (rows : List Row) (n capacity : ℕ) (p : Puttin
   x = item_at text (get_or rows i blank)
 
   abbrev later : List Row
-  later = drop (suc i) (take n rows)
+  later = drop (suc i) rows
 
-  rows_split : take n rows ≡ take i rows ++ (get_or rows i blank ∷ later)
-  rows_split = split_at (take n rows) i blank (rw (length-take-le n rows le) lt)
-      ∙ rw (take-take i n rows (omega arith), get_or-take n rows i blank lt)
+  rows_split : rows ≡ take i rows ++ (get_or rows i blank ∷ later)
+  rows_split = split_at rows i blank lt
 
-  items_split : items_at text (take n rows) ≡ xs ++ (x ∷ items_at text later)
+  items_split : items_at text rows ≡ xs ++ (x ∷ items_at text later)
   items_split = ap (items_at text) rows_split ∙ map-append (item_at text) (take i rows) (get_or rows i blank ∷ later)
 
   count : length xs ≡ i
@@ -62,10 +62,9 @@ module _ (text plan : List ℕ) (rows : List Row) (n capacity : ℕ) (p : Puttin
       → (i < max_rows) × (length plan ≡ plan_size) × (length text ≤ max_bytes)
       × (is_bad text (get_or rows i blank) ≡ false) × (at + length (encoded_at plan i x) ≤ length new)
   next_asks at new e f = (
-    lt_of_lt_of_le lt (rw (length-map (take n rows) (item_at text), length-take-le n rows le)
-        at p.planned.long),
+    lt_of_lt_of_le lt (rw (length-map rows (item_at text)) at p.planned.long),
     p.long,
-    p.short (rw (length-take-le n rows le) (omega arith)),
+    p.short (omega arith),
     sound,
     rw (e, f) (rw count at (one_fits plan capacity xs x (items_at text later) planned few fits)),
   )
@@ -75,7 +74,7 @@ module _ (text plan : List ℕ) (rows : List Row) (n capacity : ℕ) (p : Puttin
           (length (take i rows)) (rw rows_split at p.fine) (at_seam (take i rows) later (get_or rows i blank))
 
   more : items_at text (take (i + 1) rows) ≡ xs ++ (x ∷ [])
-  more = rw (add-one, take-suc rows i blank (omega arith)) (map-append (item_at text) (take i rows) (get_or rows i blank ∷ []))
+  more = rw (add-one, take-suc rows i blank lt) (map-append (item_at text) (take i rows) (get_or rows i blank ∷ []))
 
   pub put-more : (at r : ℕ) (old new next : List ℕ) → Puts (canonical xs) at old new
       → PutsAt at (encoded_at plan i x) r new next → Puts (canonical (items_at text (take (i + 1) rows))) r old next
@@ -86,8 +85,7 @@ pub put-none : (text : List ℕ) (rows : List Row) (old : List ℕ) → Puts (ca
 unfolding canonical canonical_from
 put-none text rows old = (refl, refl)
 
-pub put_all : (text : List ℕ) (rows : List Row) (n i at : ℕ) (old new : List ℕ) → i ≡ n
-    → Puts (canonical (items_at text (take i rows))) at old new
-    → new ≡ stored old (Ok (canonical (items_at text (take n rows))))
+pub put_all : (text : List ℕ) (rows : List Row) (i at : ℕ) (old new : List ℕ) → length rows ≤ i
+    → Puts (canonical (items_at text (take i rows))) at old new → new ≡ stored old (Ok (canonical (items_at text rows)))
 unfolding stored
-put_all text rows n i at old new e p = rw (← e) p.1
+put_all text rows i at old new l p = rw (take_all i rows l) at p.1

@@ -1,4 +1,3 @@
 -- What judging and writing all rows promise.
 pub mod Verdict
 pub mod Putting
-pub mod Extent

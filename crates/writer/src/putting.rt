@@ -52,16 +52,13 @@ fn put_next(
     at + put_row(&mut out[at..], text, plan, i, row)
 }
 
-// The first n rows.
-pub fn put(rows: &[Row], text: &[u8], plan: &[u16; Plan::SIZE], out: &mut [u8], n: usize)
-    requires { (n ≤ length rows.now) × Putting text.now plan.now (take n rows.now) (length out.old) }
-    ensures { out.new ≡ stored out.old
-        (Ok (canonical (items_at text.now (take n rows.now)))) }
+// All rows.
+pub fn put(rows: &[Row], text: &[u8], plan: &[u16; Plan::SIZE], out: &mut [u8])
+    requires { Putting text.now plan.now rows.now (length out.old) }
+    ensures { out.new ≡ stored out.old (Ok (canonical (items_at text.now rows.now))) }
 {
     let mut at = 0;
-    let mut i = 0;
-    while i < n {
-        at = put_next(out, text, plan, at, i, rows[i]);
-        i += 1;
+    for (i, row) in rows.iter().enumerate() {
+        at = put_next(out, text, plan, at, i, *row);
     }
 }

@@ -1,29 +1,25 @@
 -- `judge` comes to the verdict on the rows: each turn judges one more.
-use Rattle.writer.proofs.Loop.{judging_start, judging_ready, judging_within, judging_on, judging_off}
+use native.Mathlib.Omega.{arith}
+use Rattle.std.proofs.lemmas.Result.{err_from_is_err_and}
+use Rattle.writer.specs.Verdict.{passed, refused}
+use Rattle.writer.proofs.Loop.{after_none, ready, all_passed, taken_more, refused_more}
 use Rattle.writer.proofs.judging.judge.Goals as goal
 
-pub loop-s-init : goal.loop-s-init
-loop-s-init c =
-    rw (c.new-entries.ensures, c.begin-s.ensures)
-    (judging_start c.args.text.now c.args.rows.now c.args.n c.args.plan.now c.requires.3)
+pub loop-row-init : goal.loop-row-init
+loop-row-init c = rw (c.new-entries.ensures, c.begin-s.ensures) (after_none c.args.text.now c.args.plan.now c.requires.2)
 
-pub bounds-rows-s : goal.bounds-rows-s
-bounds-rows-s c =
-    judging_within c.args.text.now c.args.rows.now c.args.n c.loop-s.invariant c.loop-s-test.true c.requires.0
+pub step-requires : goal.step-requires
+step-requires c = ready _ _ c.loop-row.invariant (omega (arith, c.loop-row-test.true)) c.requires.0 c.requires.1
 
-pub step-s-requires : goal.step-s-requires
-step-s-requires c =
-    judging_ready c.args.text.now c.args.rows.now c.args.n c.loop-s.invariant c.loop-s-test.true c.requires.1 c.requires.2
+pub loop-row-preserved : goal.loop-row-preserved
+loop-row-preserved c =
+    taken_more _ _ (omega (arith, c.loop-row-test.true)) (rw c.in_ok-s.was at (c.step.ensures _ c.loop-row.invariant))
 
-pub loop-s-smaller : goal.loop-s-smaller
-loop-s-smaller c =
-    (judging_on c.args.text.now c.args.rows.now c.args.n c.loop-s.invariant c.loop-s-test.true c.requires.0
-    _ _ _ _ _ c.step-s.ensures).1
-
-pub loop-s-preserved : goal.loop-s-preserved
-loop-s-preserved c =
-    (judging_on c.args.text.now c.args.rows.now c.args.n c.loop-s.invariant c.loop-s-test.true c.requires.0
-    _ _ _ _ _ c.step-s.ensures).0
+pub returns-in_err-s : goal.returns-in_err-s
+returns-in_err-s c =
+    let failed = err_from_is_err_and c.from_residual.result c.from_residual.ensures.1 in
+    rw (failed.1, failed.2)
+    (refused (refused_more _ _ (omega (arith, c.loop-row-test.true)) (rw c.in_err-s.was at (c.step.ensures _ c.loop-row.invariant))))
 
 pub returns : goal.returns
-returns c = judging_off c.args.text.now c.args.rows.now c.args.n c.loop-s.invariant c.loop-s-test.false
+returns c = passed (all_passed _ _ c.loop-row.invariant (omega (arith, c.loop-row-test.false)))

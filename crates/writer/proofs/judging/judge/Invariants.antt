@@ -1,10 +1,7 @@
--- Where judging has come to; the rows that are left fall.
-use Prim.Native.Nat.{◌-◌}
-use Rattle.writer.specs.Verdict.{Judging}
+-- The rows before the index are taken.
+use Rattle.std.proofs.Common.{take}
+use Rattle.rows.specs.Judging.{After}
 use Rattle.writer.proofs.judging.judge.Given as goal
 
-abbrev pub invariant-loop-s : goal.invariant-loop-s
-invariant-loop-s l = Judging l.text l.rows l.n l.entries l.links l.stack l.plan l.s
-
-abbrev pub decreases-loop-s : goal.decreases-loop-s
-decreases-loop-s l = l.s.end - l.s.row
+abbrev pub invariant-loop-row : goal.invariant-loop-row
+invariant-loop-row l = After l.text l.entries l.links l.stack l.plan (take l.row-index l.rows) l.s
