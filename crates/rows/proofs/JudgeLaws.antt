@@ -95,17 +95,17 @@ module _ (text : List ℕ) (p : Progress) (r : Row) where
 
 module _ {text es links st plan : List ℕ} {xs : List Row} {s : State} (a : After text es links st plan xs s) (r : Row) where
   -- it is refused, whatever became of the tables
-  pub refuse_next : {es' links' st' plan' : List ℕ} (e : Error) {t : Answer State} → t ≡ fail e s.row
-      → first (row_rules text a.progress r) ≡ Some (failure e a.progress.row) → Next text es' links' st' plan' xs r s t
+  pub refuse_next : {es' links' st' plan' : List ℕ} (e : Error) {t : State} {q : Answer Unit} → q ≡ fail e s.row
+      → first (row_rules text a.progress r) ≡ Some (failure e a.progress.row) → Next text es' links' st' plan' xs r s t q
   unfolding fail
   refuse_next e q rules =
       rw q
       (refused (λ rest. a.run (r ∷ rest) ∙ judged_bad text a.progress r _ (rules ∙ ap (λ (n : ℕ). Some (failure e n)) a.row) rest))
 
   -- for a text that is not UTF-8, at an offset in the text
-  pub refuse_text_next : {es' links' st' plan' part : List ℕ} {f : Failure} → part ≡ content_of text r
+  pub refuse_text_next : {es' links' st' plan' part : List ℕ} {t : State} {f : Failure} → part ≡ content_of text r
       → f ≡ failure_beside InvalidUtf8 (r.start + bad_at part) s.row
-      → first (row_rules text a.progress r) ≡ bad_text text r a.progress.row → Next text es' links' st' plan' xs r s (Err f)
+      → first (row_rules text a.progress r) ≡ bad_text text r a.progress.row → Next text es' links' st' plan' xs r s t (Err f)
   refuse_text_next e q rules =
       rw (q, e) (refused (λ rest. a.run (r ∷ rest) ∙ judged_bad text a.progress r _ (rules ∙ ap (bad_text text r) a.row) rest))
 
@@ -114,22 +114,22 @@ module _ {text es links st plan : List ℕ} {xs : List Row} {s : State} (a : Aft
       → t.row ≡ s.row + 1 → t.size ≤ s.size + max_item
       → Stands st' t.depth t.left t.keyed t.row (moved a.progress.place (item_at text r))
       → Measured plan_size text text es' links' plan' (a.progress.items ++ (item_at text r ∷ [])) t.names t.size
-      → Next text es' links' st' plan' xs r s (Ok t)
+      → Next text es' links' st' plan' xs r s t (Ok tt)
   unfolding with_item
   take_next t rules er small stands measured =
       taken
       (record {
-            progress = with_item a.progress x;
-            run = λ rest. ap (judge text begin) (append_assoc xs (r ∷ []) rest) ∙ a.run (r ∷ rest)
-                ∙ judged_good text a.progress r rules rest;
-            fine = all_append _ xs (r ∷ []) a.fine (passed text a.progress r rules, tt);
-            items = ap (λ (l : List Item). l ++ (x ∷ [])) a.items ∙ sym (map-append (item_at text) xs (r ∷ []));
-            names = ap (noted x) a.names ∙ sym (names_more a.progress.items x);
-            row = sym (add-one a.progress.row) ∙ omega (arith, a.row);
-            rows = omega (arith, length-append xs (r ∷ []), a.rows);
-            small = omega (arith, a.small);
-            stands = stands;
-            measured = measured;
+        progress = with_item a.progress x;
+        run = λ rest. ap (judge text begin) (append_assoc xs (r ∷ []) rest) ∙ a.run (r ∷ rest)
+            ∙ judged_good text a.progress r rules rest;
+        fine = all_append _ xs (r ∷ []) a.fine (passed text a.progress r rules, tt);
+        items = ap (λ (l : List Item). l ++ (x ∷ [])) a.items ∙ sym (map-append (item_at text) xs (r ∷ []));
+        names = ap (noted x) a.names ∙ sym (names_more a.progress.items x);
+        row = sym (add-one a.progress.row) ∙ omega (arith, a.row);
+        rows = omega (arith, length-append xs (r ∷ []), a.rows);
+        small = omega (arith, a.small);
+        stands = stands;
+        measured = measured;
       })
       er
     where
@@ -137,9 +137,9 @@ module _ {text es links st plan : List ℕ} {xs : List Row} {s : State} (a : Aft
       x = item_at text r
 
 -- The same for an equal row.
-pub next_row : {text es links st plan : List ℕ} {xs : List Row} {q r : Row} {s : State} {t : Answer State} → q ≡ r
-    → Next text es links st plan xs q s t → Next text es links st plan xs r s t
-next_row {text} {es} {links} {st} {plan} {xs} {q} {r} {s} {t} e = subst (λ (z : Row). Next text es links st plan xs z s t) e
+pub next_row : {text es links st plan : List ℕ} {xs : List Row} {q r : Row} {s t : State} {a : Answer Unit} → q ≡ r
+    → Next text es links st plan xs q s t a → Next text es links st plan xs r s t a
+next_row {text} {es} {links} {st} {plan} {xs} {q} {r} {s} {t} {a} e = subst (λ (z : Row). Next text es links st plan xs z s t a) e
 
 -- A state that is ready takes one item more.
 pub ready_more : {text st : List ℕ} {s : State} → Ready text st s → (n : ℕ) → n ≤ max_item
@@ -152,7 +152,7 @@ module _ {text es links st plan : List ℕ} {xs : List Row} {s : State} (a : Aft
       → first (row_rules text a.progress r) ≡ None → is_key (item_at text r) ≡ false → is_container (item_at text r)
       && ltb 0 r.number ≡ false
       → Measured plan_size text text es' links' plan' (a.progress.items ++ (item_at text r ∷ [])) c (s.size + n)
-      → Next text es' links' st plan' xs r s (Ok t)
+      → Next text es' links' st plan' xs r s t (Ok tt)
   unfolding valued item_at
   value-next c n e lt l rules key box m = rw e (take_next a r (valued st s c n) rules refl (omega arith)
       (stands-value a.stands (item_at text r) lt key box) m)
@@ -161,7 +161,7 @@ module _ {text es links st plan : List ℕ} {xs : List Row} {s : State} (a : Aft
       → s.row < max_rows → n ≤ max_item → r.kind ≢ Kind.container
       → first (row_rules text a.progress r) ≡ None
       → Measured plan_size text text es' links' plan' (a.progress.items ++ (item_at text r ∷ [])) c (s.size + n)
-      → Next text es' links' st plan' xs r s (Ok t)
+      → Next text es' links' st plan' xs r s t (Ok tt)
   unfolding named_by keyed_by item_at is_key is_container
   named-next c n e lt l box rules m =
       cases (eqb r.kind Kind.key)
@@ -174,7 +174,7 @@ module _ {text es links st plan : List ℕ} {xs : List Row} {s : State} (a : Aft
       → first (row_rules text a.progress r) ≡ None → is_key (item_at text r) ≡ false → is_container (item_at text r)
       && ltb 0 r.number ≡ true
       → Measured plan_size text text es links plan (a.progress.items ++ (item_at text r ∷ [])) s.names (s.size + n)
-      → Next text es links st' plan xs r s (Ok t)
+      → Next text es links st' plan xs r s t (Ok tt)
   unfolding opened_by item_at
   open_next n e f lt l rules key box m = rw (e, f)
       (take_next a r (opened_by s r.number n) rules refl (omega arith)

@@ -99,7 +99,7 @@ module _ {text es links st plan : List ℕ} {xs : List Row} {s : State} (a : Aft
   pub known_next : {plan' : List ℕ} (i : ℕ) {t : State} → i < 2 ^ 64
       → index (item_at text r) (names_in text text (take s.names es)) ≡ Some i
       → t ≡ named_by st s r.kind s.names (length (header Code.reference i)) → plan' ≡ set plan s.row i
-      → Next text es links st plan' xs r s (Ok t)
+      → Next text es links st plan' xs r s t (Ok tt)
   known_next i l e et ep =
       rw ep
       (named-next a r s.names (length (header Code.reference i)) et ready.row (omega (arith, header-most 7 i l))
@@ -111,7 +111,7 @@ module _ {text es links st plan : List ℕ} {xs : List Row} {s : State} (a : Aft
   pub fresh-next : {es' links' plan' part : List ℕ} (g v : ℕ) {t : State} → part ≡ content_of text r → utf8 (content_of text r) ≡ true
       → Entered text text es es' links' s.names (name r.kind part) r.start
       → t ≡ named_by st s r.kind (s.names + 1) (length (header (r.kind - Kind.bytes) r.number) + r.number)
-      → plan' ≡ set (set plan (max_rows + g) v) s.row no_index → Next text es' links' st plan' xs r s (Ok t)
+      → plan' ≡ set (set plan (max_rows + g) v) s.row no_index → Next text es' links' st plan' xs r s t (Ok tt)
   unfolding item_at
   fresh-next g v e u n et ep =
       rw ep

@@ -35,9 +35,8 @@ pub record Ready (text st : List ℕ) (s : State) : Type 0 where
   pub deep : s.depth ≤ max_depth
   pub top : 2 ≤ bottom st s.depth s.left
 
--- One row more: taken, or refused whatever follows.
-pub data Next (text es links st plan : List ℕ) (xs : List Row) (r : Row) (s : State) : Answer State → Type 0 where
-  taken : {t : State} → After text es links st plan (xs ++ (r ∷ [])) t → t.row ≡ s.row + 1
-      → Next text es links st plan xs r s (Ok t)
+-- One row more, from the state s to t: taken, or refused whatever follows.
+pub data Next (text es links st plan : List ℕ) (xs : List Row) (r : Row) (s t : State) : Answer Unit → Type 0 where
+  taken : After text es links st plan (xs ++ (r ∷ [])) t → t.row ≡ s.row + 1 → Next text es links st plan xs r s t (Ok tt)
   refused : {f : Failure} → ((rest : List Row) → judge text begin (xs ++ (r ∷ rest)) ≡ Err f)
-      → Next text es links st plan xs r s (Err f)
+      → Next text es links st plan xs r s t (Err f)

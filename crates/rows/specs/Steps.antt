@@ -15,7 +15,6 @@ valued st s names n =
 unfoldable pub keyed_by : State → ℕ → ℕ → State
 keyed_by s names n = record {
   row = s.row + 1;
- 
   depth = s.depth;
   left = s.left;
   keyed = 1;
@@ -31,7 +30,6 @@ named_by st s kind names n = pick (eqb kind Kind.key) (keyed_by s names n) (valu
 unfoldable pub opened_by : State → ℕ → ℕ → State
 opened_by s fields n = record {
   row = s.row + 1;
- 
   depth = s.depth + 1;
   left = fields;
   keyed = 0;

@@ -71,37 +71,33 @@ fn is_entry(
 fn known(
     stack: &[u64; Bundle::MAX_DEPTH],
     plan: &mut [u16; Plan::SIZE],
-    s: State,
+    s: &mut State,
     kind: u8,
     i: u16,
-) -> State
-    requires { ((text : List ℕ) × Ready text stack.now s) × (length plan.old ≡ plan_size) }
-    ensures state { result ≡ named_by stack.now s kind s.names (length (header Code.reference i)) }
-    ensures planned { plan.new ≡ set plan.old s.row i }
+)
+    requires { ((text : List ℕ) × Ready text stack.now s.old) × (length plan.old ≡ plan_size) }
+    ensures state { s.new ≡ named_by stack.now s.old kind s.old.names (length (header Code.reference i)) }
+    ensures planned { plan.new ≡ set plan.old s.old.row i }
 {
     let row = s.row;
     plan[row] = i;
+    let names = s.names;
     named(
         stack,
         s,
         kind,
-        s.names,
+        names,
         header_len(Header::REFERENCE, i as u64),
-    )
+    );
 }
 
 // A name that is entered now: the guess for its place in the text, and that it stands in full.
-fn fresh(
-    stack: &[u64; Bundle::MAX_DEPTH],
-    plan: &mut [u16; Plan::SIZE],
-    s: State,
-    row: Row,
-) -> State
-    requires { ((text : List ℕ) × Ready text stack.now s) × (length plan.old ≡ plan_size)
-        × (s.names < max_entries) × (Kind.symbol ≤ row.kind) × (row.kind ≤ Kind.key) × (row.number ≤ max_bytes) }
-    ensures state { result ≡ named_by stack.now s row.kind (s.names + 1)
+fn fresh(stack: &[u64; Bundle::MAX_DEPTH], plan: &mut [u16; Plan::SIZE], s: &mut State, row: Row)
+    requires { ((text : List ℕ) × Ready text stack.now s.old) × (length plan.old ≡ plan_size)
+        × (s.old.names < max_entries) × (Kind.symbol ≤ row.kind) × (row.kind ≤ Kind.key) × (row.number ≤ max_bytes) }
+    ensures state { s.new ≡ named_by stack.now s.old row.kind (s.old.names + 1)
         (length (header (row.kind - Kind.bytes) row.number) + row.number) }
-    ensures planned { plan.new ≡ set (set plan.old (guess_at row.start) s.names) s.row no_index }
+    ensures planned { plan.new ≡ set (set plan.old (guess_at row.start) s.old.names) s.old.row no_index }
 {
     let names = s.names;
     let at = s.row;
@@ -110,7 +106,7 @@ fn fresh(
     plan[Plan::GUESSES + start % Plan::MODULUS] = names as u16;
     plan[at] = Reference::FULL;
     let n = header_len(code_of(row.kind), number) + number as usize;
-    named(stack, s, row.kind, names + 1, n)
+    named(stack, s, row.kind, names + 1, n);
 }
 
 // A name that no guess finds.
@@ -120,28 +116,29 @@ fn looked_up(
     links: &mut [u16; Links::SIZE],
     stack: &[u64; Bundle::MAX_DEPTH],
     plan: &mut [u16; Plan::SIZE],
-    s: State,
+    s: &mut State,
     row: Row,
-) -> Result<State, Failure>
-    requires { Ready text.now stack.now s × Naming text.now s row
-        × Chained text.now text.now entries.old links.old s.names × (length plan.old ≡ plan_size) }
+) -> Result<(), Failure>
+    requires { Ready text.now stack.now s.old × Naming text.now s.old row
+        × Chained text.now text.now entries.old links.old s.old.names × (length plan.old ≡ plan_size) }
     ensures { (xs : List Row) → After text.now entries.old links.old
-        stack.now plan.old xs s
-        → Next text.now entries.new links.new stack.now plan.new xs row s result }
+        stack.now plan.old xs s.old
+        → Next text.now entries.new links.new stack.now plan.new xs row s.old s.new result }
 {
     let part = content(text, row);
     if !is_utf8(part) {
-        return Err(invalid_text(s, row.start, part));
+        return Err(invalid_text(s.row, row.start, part));
     }
     let kind = row.kind;
     let key = key_of(kind, part);
     let names = s.names;
     let start = row.start;
     match note(text, text, entries, links, names, kind, key, 0, start, part) {
-        Noted::Known(i) => Ok(known(stack, plan, s, kind, i as u16)),
-        Noted::Entered => Ok(fresh(stack, plan, s, row)),
-        Noted::Full => fail(Error::TooManyEntries, s.row),
+        Noted::Known(i) => known(stack, plan, s, kind, i as u16),
+        Noted::Entered => fresh(stack, plan, s, row),
+        Noted::Full => return fail(Error::TooManyEntries, s.row),
     }
+    Ok(())
 }
 
 // A symbol or a key.
@@ -151,14 +148,14 @@ pub fn name_row(
     links: &mut [u16; Links::SIZE],
     stack: &[u64; Bundle::MAX_DEPTH],
     plan: &mut [u16; Plan::SIZE],
-    s: State,
+    s: &mut State,
     row: Row,
-) -> Result<State, Failure>
-    requires { Ready text.now stack.now s × (Kind.symbol ≤ row.kind)
-        × Chained text.now text.now entries.old links.old s.names × (length plan.old ≡ plan_size) }
+) -> Result<(), Failure>
+    requires { Ready text.now stack.now s.old × (Kind.symbol ≤ row.kind)
+        × Chained text.now text.now entries.old links.old s.old.names × (length plan.old ≡ plan_size) }
     ensures { (xs : List Row) → After text.now entries.old links.old
-        stack.now plan.old xs s
-        → Next text.now entries.new links.new stack.now plan.new xs row s result }
+        stack.now plan.old xs s.old
+        → Next text.now entries.new links.new stack.now plan.new xs row s.old s.new result }
 {
     if is_bad(text.len(), row) {
         return fail(Error::InvalidRow, s.row);
@@ -170,7 +167,8 @@ pub fn name_row(
     let start = row.start;
     let guess = plan[Plan::GUESSES + start % Plan::MODULUS];
     if is_entry(entries, s.names, guess, kind, start, row.number) {
-        return Ok(known(stack, plan, s, kind, guess));
+        known(stack, plan, s, kind, guess);
+        return Ok(());
     }
     looked_up(text, entries, links, stack, plan, s, row)
 }

@@ -32,30 +32,30 @@ fn close(stack: &[u64; Bundle::MAX_DEPTH], depth: usize, left: u64) -> Level
 }
 
 // After a value of n bytes.
-pub fn value(stack: &[u64; Bundle::MAX_DEPTH], s: State, names: usize, n: usize) -> State
-    requires { (length stack.now ≡ max_depth) × (s.depth ≤ max_depth)
-        × (2 ≤ bottom stack.now s.depth s.left) × (s.row + 1 < 2 ^ 64) × (s.size + n < 2 ^ 64) }
-    ensures { result ≡ valued stack.now s names n }
+pub fn value(stack: &[u64; Bundle::MAX_DEPTH], s: &mut State, names: usize, n: usize)
+    requires { (length stack.now ≡ max_depth) × (s.old.depth ≤ max_depth)
+        × (2 ≤ bottom stack.now s.old.depth s.old.left) × (s.old.row + 1 < 2 ^ 64) × (s.old.size + n < 2 ^ 64) }
+    ensures { s.new ≡ valued stack.now s.old names n }
 {
     let to = close(stack, s.depth, s.left);
-    State {
+    *s = State {
         row: s.row + 1,
         depth: to.depth,
         left: to.left,
         keyed: 0,
         names,
         size: s.size + n,
-    }
+    };
 }
 
 // After a name of n bytes: a key is no value yet.
-pub fn named(stack: &[u64; Bundle::MAX_DEPTH], s: State, kind: u8, names: usize, n: usize) -> State
-    requires { (length stack.now ≡ max_depth) × (s.depth ≤ max_depth)
-        × (2 ≤ bottom stack.now s.depth s.left) × (s.row + 1 < 2 ^ 64) × (s.size + n < 2 ^ 64) }
-    ensures { result ≡ named_by stack.now s kind names n }
+pub fn named(stack: &[u64; Bundle::MAX_DEPTH], s: &mut State, kind: u8, names: usize, n: usize)
+    requires { (length stack.now ≡ max_depth) × (s.old.depth ≤ max_depth)
+        × (2 ≤ bottom stack.now s.old.depth s.old.left) × (s.old.row + 1 < 2 ^ 64) × (s.old.size + n < 2 ^ 64) }
+    ensures { s.new ≡ named_by stack.now s.old kind names n }
 {
     if kind == Row::KEY {
-        return State {
+        *s = State {
             row: s.row + 1,
             depth: s.depth,
             left: s.left,
@@ -63,24 +63,26 @@ pub fn named(stack: &[u64; Bundle::MAX_DEPTH], s: State, kind: u8, names: usize,
             names,
             size: s.size + n,
         };
+        return;
     }
-    value(stack, s, names, n)
+    value(stack, s, names, n);
 }
 
 // After the header, of n bytes, of a container with fields in it.
-pub fn descend(stack: &mut [u64; Bundle::MAX_DEPTH], s: State, fields: u64, n: usize) -> State
-    requires { (length stack.old ≡ max_depth) × (s.depth < max_depth) × (s.row + 1 < 2 ^ 64) × (s.size + n < 2 ^ 64) }
-    ensures state { result ≡ opened_by s fields n }
-    ensures stored { stack.new ≡ set stack.old s.depth s.left }
+pub fn descend(stack: &mut [u64; Bundle::MAX_DEPTH], s: &mut State, fields: u64, n: usize)
+    requires { (length stack.old ≡ max_depth) × (s.old.depth < max_depth) × (s.old.row + 1 < 2 ^ 64)
+        × (s.old.size + n < 2 ^ 64) }
+    ensures state { s.new ≡ opened_by s.old fields n }
+    ensures stored { stack.new ≡ set stack.old s.old.depth s.old.left }
 {
     let depth = s.depth;
     stack[depth] = s.left;
-    State {
+    *s = State {
         row: s.row + 1,
         depth: depth + 1,
         left: fields,
         keyed: 0,
         names: s.names,
         size: s.size + n,
-    }
+    };
 }

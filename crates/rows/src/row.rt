@@ -17,11 +17,16 @@ use wire::header::{code_of, header_len};
 use wire::rules::bad_text;
 
 // Bytes or a string.
-fn content_row(text: &[u8], stack: &[u64; Bundle::MAX_DEPTH], s: State, row: Row) -> Result<State, Failure>
-    requires { Ready text.now stack.now s × (row.kind < Kind.symbol) × (has_content row.kind ≡ true) }
+fn content_row(
+    text: &[u8],
+    stack: &[u64; Bundle::MAX_DEPTH],
+    s: &mut State,
+    row: Row,
+) -> Result<(), Failure>
+    requires { Ready text.now stack.now s.old × (row.kind < Kind.symbol) × (has_content row.kind ≡ true) }
     ensures { (es links plan : List ℕ) (xs : List Row)
-        → After text.now es links stack.now plan xs s
-        → Next text.now es links stack.now plan xs row s result }
+        → After text.now es links stack.now plan xs s.old
+        → Next text.now es links stack.now plan xs row s.old s.new result }
 {
     let number = row.number;
     if outside(text.len(), row.start, number) {
@@ -30,38 +35,51 @@ fn content_row(text: &[u8], stack: &[u64; Bundle::MAX_DEPTH], s: State, row: Row
     let kind = row.kind;
     let part = content(text, row);
     if bad_text(kind == Row::STRING, part) {
-        return Err(invalid_text(s, row.start, part));
+        return Err(invalid_text(s.row, row.start, part));
     }
     let n = header_len(code_of(kind), number) + number as usize;
-    Ok(value(stack, s, s.names, n))
+    value(stack, s, s.names, n);
+    Ok(())
 }
 
 // A container, which has no content.
-fn container_row(stack: &mut [u64; Bundle::MAX_DEPTH], s: State, number: u64) -> Result<State, Failure>
-    requires { (text : List ℕ) × Ready text stack.old s }
-    ensures { (text es links plan : List ℕ) (xs : List Row) → After text es links stack.old plan xs s
-        → Next text es links stack.new plan xs (record { kind = Kind.container; number = number; start = 0 }) s result }
+fn container_row(
+    stack: &mut [u64; Bundle::MAX_DEPTH],
+    s: &mut State,
+    number: u64,
+) -> Result<(), Failure>
+    requires { (text : List ℕ) × Ready text stack.old s.old }
+    ensures { (text es links plan : List ℕ) (xs : List Row) → After text es links stack.old plan xs s.old
+        → Next text es links stack.new plan xs (record { kind = Kind.container; number = number; start = 0 }) s.old s.new result }
 {
     if Bundle::MAX_DEPTH <= s.depth {
         return fail(Error::TooDeep, s.row);
     }
     let n = header_len(Header::CONTAINER, number);
     if number == 0 {
-        return Ok(value(stack, s, s.names, n));
+        value(stack, s, s.names, n);
+        return Ok(());
     }
-    Ok(descend(stack, s, number, n))
+    descend(stack, s, number, n);
+    Ok(())
 }
 
 // A row that is no container and has no content.
-fn plain_row(stack: &[u64; Bundle::MAX_DEPTH], s: State, kind: u8, number: u64) -> Result<State, Failure>
-    requires { ((text : List ℕ) × Ready text stack.now s) × (kind < Kind.container) × (has_content kind ≡ false) }
-    ensures { (text es links plan : List ℕ) (xs : List Row) → After text es links stack.now plan xs s
-        → Next text es links stack.now plan xs (record { kind = kind; number = number; start = 0 }) s result }
+fn plain_row(
+    stack: &[u64; Bundle::MAX_DEPTH],
+    s: &mut State,
+    kind: u8,
+    number: u64,
+) -> Result<(), Failure>
+    requires { ((text : List ℕ) × Ready text stack.now s.old) × (kind < Kind.container) × (has_content kind ≡ false) }
+    ensures { (text es links plan : List ℕ) (xs : List Row) → After text es links stack.now plan xs s.old
+        → Next text es links stack.now plan xs (record { kind = kind; number = number; start = 0 }) s.old s.new result }
 {
     if bad_number(kind, number) {
         return fail(Error::InvalidRow, s.row);
     }
-    Ok(value(stack, s, s.names, plain_len(kind, number)))
+    value(stack, s, s.names, plain_len(kind, number));
+    Ok(())
 }
 
 // One row more.
@@ -71,14 +89,14 @@ pub fn step(
     links: &mut [u16; Links::SIZE],
     stack: &mut [u64; Bundle::MAX_DEPTH],
     plan: &mut [u16; Plan::SIZE],
-    s: State,
+    s: &mut State,
     row: Row,
-) -> Result<State, Failure>
-    requires { Ready text.now stack.old s × Chained text.now text.now entries.old links.old s.names
+) -> Result<(), Failure>
+    requires { Ready text.now stack.old s.old × Chained text.now text.now entries.old links.old s.old.names
         × (length plan.old ≡ plan_size) }
     ensures { (xs : List Row) → After text.now entries.old links.old
-        stack.old plan.old xs s
-        → Next text.now entries.new links.new stack.new plan.new xs row s result }
+        stack.old plan.old xs s.old
+        → Next text.now entries.new links.new stack.new plan.new xs row s.old s.new result }
 {
     let kind = row.kind;
     if Row::SYMBOL <= kind {

@@ -29,10 +29,10 @@ impl State {
 }
 
 // A row whose text, from start on, is not UTF-8: only now the place is looked for.
-pub fn invalid_text(s: State, start: usize, part: &[u8]) -> Failure
+pub fn invalid_text(row: usize, start: usize, part: &[u8]) -> Failure
     requires { start + length part.now ≤ max_bytes }
-    ensures { result ≡ failure_beside InvalidUtf8 (start + bad_at part.now) s.row }
+    ensures { result ≡ failure_beside InvalidUtf8 (start + bad_at part.now) row }
 {
     let place = start + utf8::bad_at(part);
-    Failure::beside(Error::InvalidUtf8, place, s.row)
+    Failure::beside(Error::InvalidUtf8, place, row)
 }

@@ -66,10 +66,10 @@ module _ {text es links st plan : List ℕ} (rs : List Row) (i : ℕ) {s : State
 
 -- A row more is taken,
 pub taken_more : {text es links st plan : List ℕ} (rs : List Row) (i : ℕ) {s t : State} → i < length rs
-    → Next text es links st plan (take i rs) (get_or rs i blank) s (Ok t) → After text es links st plan (take (i + 1) rs) t
+    → Next text es links st plan (take i rs) (get_or rs i blank) s t (Ok tt) → After text es links st plan (take (i + 1) rs) t
 taken_more rs i l (taken a row) = rw (add-one, take-suc rs i blank l) a
 
 -- or refused, and with it all rows.
-pub refused_more : {text es links st plan : List ℕ} (rs : List Row) (i : ℕ) {s : State} {f : Failure} → i < length rs
-    → Next text es links st plan (take i rs) (get_or rs i blank) s (Err f) → judge text begin rs ≡ Err f
+pub refused_more : {text es links st plan : List ℕ} (rs : List Row) (i : ℕ) {s t : State} {f : Failure} → i < length rs
+    → Next text es links st plan (take i rs) (get_or rs i blank) s t (Err f) → judge text begin rs ≡ Err f
 refused_more {text = text} rs i l (refused r) = ap (judge text begin) (split_at rs i blank l) ∙ r (drop (suc i) rs)

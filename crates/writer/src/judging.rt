@@ -33,7 +33,15 @@ pub fn judge(rows: &[Row], text: &[u8], plan: &mut [u16; Plan::SIZE]) -> Result<
     let mut stack = [0u64; Bundle::MAX_DEPTH];
     let mut s = begin();
     for row in rows {
-        s = step(text, &mut entries, &mut links, &mut stack, plan, s, *row)?;
+        step(
+            text,
+            &mut entries,
+            &mut links,
+            &mut stack,
+            plan,
+            &mut s,
+            *row,
+        )?;
     }
     Ok(s)
 }
