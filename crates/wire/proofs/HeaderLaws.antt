@@ -9,7 +9,7 @@ use native.Mathlib.Numerals.{add-one}
 use native.Mathlib.Omega.{arith}
 use lib.Dec.{lit<}
 use lib.ListN.{length, take, drop, get_or, length-drop, drop_of_length-le}
-use lib.Seq.{take-suc, take_all}
+use lib.Seq.{take-suc, take_all, drop-cons}
 use Rattle.format.specs.Choice.{pick}
 use Rattle.format.specs.Limits.{max_inline}
 use Rattle.format.specs.Header.{big_endian, following, payload_of, header_of}
@@ -45,9 +45,10 @@ pub no_header : (s : List ℕ) (at : ℕ) → length s ≤ at → header_of (dro
 unfolding header_of
 no_header s at h = rw (drop_of_length-le s h)
 
--- what stands from an offset on, and its first byte
-pub found : (s xs : List ℕ) (at b : ℕ) (bs : List ℕ) → xs ≡ take (length s - at) (drop at s) → xs ≡ b ∷ bs → drop at s ≡ b ∷ bs
-found s xs at b bs e f = sym (take_all (length s - at) (drop at s) (omega (arith, length-drop at s))) ∙ sym e ∙ f
+-- what stands from an offset on: its first byte, and the rest
+pub found : (s : List ℕ) (at b : ℕ) → at < length s → b ≡ get_or s at 0 → drop at s ≡ b ∷ take (length s - (at + 1)) (drop (at + 1) s)
+found s at b h e =
+    rw (take_all (length s - (at + 1)) (drop (at + 1) s) (omega (arith, length-drop (at + 1) s)), add-one, drop-cons s at 0 h, e)
 
 module _ (b : ℕ) (bs : List ℕ) where
   module _ (n : ℕ) (en : n ≡ following (b / 32) (b % 32)) where

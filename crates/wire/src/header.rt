@@ -105,14 +105,15 @@ fn inline_payload(code: u8, sz: u8) -> u64
 pub fn header_at(s: &[u8], at: usize) -> Option<Header>
     ensures { result ≡ header_of (drop at s.now) }
 {
-    let (lead, rest) = s.get(at..)?.split_first()?;
-    let code = *lead / Lead::SIZES;
-    let sz = *lead % Lead::SIZES;
+    let lead = *s.get(at)?;
+    let code = lead / Lead::SIZES;
+    let sz = lead % Lead::SIZES;
     // most headers: one byte with the payload in it
     if code != Header::BINARY && u64::from(sz) <= Header::MAX_INLINE {
         return Some(Header::new(code, sz, u64::from(sz), 1));
     }
     let n = following(code, sz);
+    let rest = &s[at + 1..];
     if rest.len() < n {
         return None;
     }
