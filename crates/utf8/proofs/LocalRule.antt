@@ -123,11 +123,11 @@ module _ (s : List ℕ) where
   failed zero a i q h p = let z : a ≡ i = omega arith in window a (omega arith) ∙ rw (z, p)
   failed (suc n) a i q h p = window a (omega arith) ∙ rw (failed n (a + 1) i (omega arith) h p) (and-false (passes_at s a))
 
-  pub checked_more : (a j : ℕ) (pass r : Bool) → a + j + 3 < length s → r ≡ passes_at s (a + j)
-      → Checked s a (a + j) pass → Checked s a (a + (j + 1)) (pass && r)
-  checked_more a j true r h q c =
-      ((λ e. one_more (λ i. passes_at s i ≡ true) a j (c.0 refl) (sym q ∙ e)), (λ e. failed j a (a + j) refl h (sym q ∙ e)))
-  checked_more a j false r h q c = ((λ e. clash e refl), (λ _. c.1 refl))
+  pub checked_more : (a j : ℕ) (pass r : Bool) → a ≤ j → j + 3 < length s → r ≡ passes_at s j
+      → Checked s a j pass → Checked s a (j + 1) (pass && r)
+  checked_more a j true r l h q c =
+      ((λ e. one_more (λ i. passes_at s i ≡ true) a j (c.0 refl) (sym q ∙ e)), (λ e. failed (j - a) a j (omega arith) h (sym q ∙ e)))
+  checked_more a j false r l h q c = ((λ e. clash e refl), (λ _. c.1 refl))
 
   -- the first three bytes
   pub started : 3 ≤ length s

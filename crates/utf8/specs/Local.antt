@@ -1,12 +1,16 @@
 -- UTF-8 by a local rule: whether a byte may stand where it does goes by the three bytes before it alone.
-use Rattle.std.specs.Prelude.{ℕ, ◌+◌, ◌*◌, ◌≤◌, ◌<◌, ◌≡◌, Bool, true, false, not, ◌&&◌, ◌||◌, List, leb, get_or, drop, is_none}
+use Rattle.std.specs.Prelude.{ℕ, ◌+◌, ◌*◌, ◌≤◌, ◌<◌, ◌≡◌, Bool, true, false, not, ◌&&◌, ◌||◌, List, leb, ltb, get_or, drop, is_none, Option, Some, None}
 use Rattle.std.specs.Bool.{beq}
 use Rattle.format.specs.Choice.{pick}
-use Rattle.format.specs.Utf8.{stop_after}
+use Rattle.format.specs.Utf8.{leads, stop_after}
 
 -- Bytes from an offset on are good where k continuation bytes are due first.
 abbrev pub good_after : ℕ → ℕ → List ℕ → Bool
 good_after k i bs = is_none (stop_after k i bs)
+
+-- How many continuation bytes a byte leads.
+abbrev pub lead_of : ℕ → Option ℕ
+lead_of b = pick (ltb (leads b) 4) (Some (leads b)) None
 
 -- A window: a byte, and so many before it.
 abbrev pub before : ℕ
