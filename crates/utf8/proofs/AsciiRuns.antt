@@ -105,10 +105,6 @@ pub record Front (s rest : List ℕ) : Type 0 where
   pub is : rest ≡ drop (length s - length rest) s
   pub ascii : Ascii s 0 (length s - length rest)
 
-pub front_start : (s : List ℕ) → Front s s
-front_start s = let z : length s - length s ≡ 0 = omega arith in
-    record { long = omega arith; is = rw z; ascii = λ i l u. absurd (omega arith) }
-
 pub front_more : (s rest step more : List ℕ) (n : ℕ) → Front s rest → step ≡ take n rest → more ≡ drop n rest → length more + n ≡ length rest
     → Ascii step 0 (length step) → Front s more
 front_more s rest step more n f es em el g =
