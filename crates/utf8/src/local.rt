@@ -1,7 +1,7 @@
 // UTF-8 by a local rule, which looks at a byte and the three before it: no branch on the data, so that it becomes vector code.
 ghost use Rattle.std.specs.Prelude.{◌≡◌, not, ◌&&◌, ◌+◌, ◌-◌, ◌≤◌, length};
 ghost use Rattle.format.specs.Utf8.{utf8};
-ghost use Rattle.utf8.specs.Local.{before, block_bytes, due, passes, Passing, good_from, Checked};
+ghost use Rattle.utf8.specs.Local.{before, block_bytes, due, passes, Passing, good_from, Judged};
 
 use crate::ascii::ascii_windows;
 
@@ -47,14 +47,14 @@ fn starts(s: &[u8]) -> bool
     may_follow(0, 0, 0, x) & may_follow(0, 0, x, y) & may_follow(0, x, y, z)
 }
 
-// The local rule in the n windows from a on. With no branch, and n known at the call, this becomes vector code.
-fn block(s: &[u8], a: usize, n: usize) -> bool
-    requires { a + n + before ≤ length s.now }
-    ensures { Checked s.now a (a + n) result }
+// The local rule in all windows of a block. With no branch, and as many of them known at the call, this becomes vector code.
+fn block(s: &[u8]) -> bool
+    requires { before ≤ length s.now }
+    ensures { Judged s.now result }
 {
     let mut pass = true;
-    for i in a..a + n {
-        pass = pass & may_follow(s[i], s[i + 1], s[i + 2], s[i + 3]);
+    for &[p3, p2, p1, b] in s.array_windows::<4>() {
+        pass = pass & may_follow(p3, p2, p1, b);
     }
     pass
 }
@@ -69,7 +69,7 @@ fn blocks(s: &[u8], a: usize) -> bool
     let mut i = a;
     loop {
         let at = i.min(last);
-        if !block(s, at, Window::PER_BLOCK) {
+        if !block(&s[at..at + Window::BLOCK_BYTES]) {
             return false;
         }
         if last <= at {
