@@ -8,8 +8,5 @@ use format::Bundle;
 pub fn is_over(size: usize, capacity: usize) -> bool
     ensures { result ≡ ltb (min max_bytes capacity) size }
 {
-    if Bundle::MAX_BYTES < size {
-        return true;
-    }
-    capacity < size
+    Bundle::MAX_BYTES.min(capacity) < size
 }

@@ -44,6 +44,7 @@ pub fn put_sized(out: &mut [u8], code: u8, number: u64, part: &[u8]) -> usize
 }
 
 // A name, by its reference or in full.
+#[tactic(auto, using(crate::proofs::OutputLaws::by_reference, crate::proofs::OutputLaws::in_full))]
 pub fn put_named(out: &mut [u8], refer: u16, code: u8, number: u64, part: &[u8]) -> usize
     requires { (code < codes) × (length (referring refer (header code number ++ part.now)) ≤ length out.old) }
     ensures { Puts (referring refer (header code number ++ part.now)) result out.old out.new }

@@ -120,9 +120,9 @@ module _ {a b es links : List ℕ} {count kind key : ℕ} (content : List ℕ) (
     lt : v - 1 < count
     lt = omega (arith, w.within)
 
-    pub along_next : same_name x (name_in a b (get_or es (v - 1) 0)) ≡ false
+    along_next_from : same_name x (name_in a b (get_or es (v - 1) 0)) ≡ false
         → Along a b es count kind key content (get_or links (buckets + (v - 1)) 0)
-    along_next h =
+    along_next_from h =
         record {
           within = omega (arith, c.next_le (v - 1) lt, w.within);
           none_from = λ j l le. equal j (v - 1) (λ (q : j ≡ v - 1). rw q h)
@@ -139,13 +139,17 @@ module _ {a b es links : List ℕ} {count kind key : ℕ} (content : List ℕ) (
             ∙ sym (w.here pos)) in
             absurd (omega arith))
 
-    pub along_less : get_or links (buckets + (v - 1)) 0 < v
-    along_less = omega (arith, c.next_le (v - 1) lt)
+    pub along_next : (i : ℕ) → i ≡ v - 1 → same_name x (name_in a b (get_or es i 0)) ≡ false
+        → Along a b es count kind key content (get_or links (buckets + i) 0)
+    along_next i e h = let g = rw e at h in rw e (along_next_from g)
 
-    pub along_hit : same_name x (name_in a b (get_or es (v - 1) 0)) ≡ true → index x (names_in a b (take count es)) ≡ Some (v - 1)
-    along_hit h =
+    hit_from : same_name x (name_in a b (get_or es (v - 1) 0)) ≡ true → index x (names_in a b (take count es)) ≡ Some (v - 1)
+    hit_from h =
         index_some a b es count x (count-le c.table) (v - 1) lt h
         (λ j l. same_via x (name_in a b (get_or es (v - 1) 0)) (name_in a b (get_or es j 0)) h ∙ c.unlike (v - 1) j lt l)
+
+    pub along_hit : (i : ℕ) → i ≡ v - 1 → same_name x (name_in a b (get_or es i 0)) ≡ true → index x (names_in a b (take count es)) ≡ Some i
+    along_hit i e h = let g = rw e at h in rw e (hit_from g)
 
   pub along_end : {v : ℕ} → Along a b es count kind key content v → v ≡ 0 → index x (names_in a b (take count es)) ≡ None
   along_end w e = index-none a b es count x (count-le c.table) (λ j l. w.none_from j l (omega arith))

@@ -137,6 +137,7 @@ pub fn is_part(e: u64, kind: u8, start: usize, len: u64) -> bool
 // ---- the name of an entry
 
 // A part of the first or of the second of two slices.
+#[tactic(auto, unfolding(crate::specs::Entry::side_of, format::specs::Choice::pick))]
 pub fn pick<'a>(first: &'a [u8], second: &'a [u8], side: u64, from: usize, len: usize) -> &'a [u8]
     requires { from + len ≤ length (side_of side first.now second.now) }
     ensures { result.now ≡ take len (drop from (side_of side first.now second.now)) }
@@ -149,6 +150,7 @@ pub fn pick<'a>(first: &'a [u8], second: &'a [u8], side: u64, from: usize, len: 
 }
 
 // The bytes of an entry's name.
+#[tactic(auto, unfolding(crate::specs::Entry::part_in))]
 pub fn part<'a>(first: &'a [u8], second: &'a [u8], e: u64) -> &'a [u8]
     requires { Sound first.now second.now e }
     ensures { result.now ≡ part_in first.now second.now e }
@@ -157,6 +159,7 @@ pub fn part<'a>(first: &'a [u8], second: &'a [u8], e: u64) -> &'a [u8]
 }
 
 // Whether an entry has this name.
+#[tactic(auto, using(crate::proofs::EntryLaws::other_key, crate::proofs::EntryLaws::same_key))]
 pub fn is_name<'a>(
     first: &'a [u8],
     second: &'a [u8],

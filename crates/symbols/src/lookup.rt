@@ -35,14 +35,13 @@ pub fn find<'a>(
         × (Kind.symbol ≤ kind) × (kind ≤ Kind.key) × (length content.now ≤ max_bytes) }
     ensures { result ≡ index (name kind content.now) (names_in first.now second.now (take count entries.now)) }
 {
-    let head = bucket(key);
-    let mut v = links[head];
-    while 0 < v {
-        let i = (v - 1) as usize;
+    let mut link = links[bucket(key)];
+    while let Some(i) = link.checked_sub(1) {
+        let i = usize::from(i);
         if is_name(first, second, entries[i], kind, key, content) {
             return Some(i);
         }
-        v = links[Links::HEADS + i];
+        link = links[Links::HEADS + i];
     }
     None
 }

@@ -14,6 +14,7 @@ impl Marks {
     const MAX_END: usize = 16;
 }
 
+#[tactic(auto, unfolding(crate::specs::Mark::mixed))]
 fn mix(h: u64, v: u64, w: u64) -> u64
     requires { h < marks }
     ensures { (result ≡ mixed h v w) × (result < marks) }
@@ -29,27 +30,26 @@ fn end(h: u64, s: &[u8]) -> u64
 {
     let n = s.len();
     if 8 <= n {
-        let g = mix(h, number(s, 0, 4), number(s, 4, 4));
-        return mix(g, number(s, n - 8, 4), number(s, n - 4, 4));
+        let g = mix(h, number(&s[..4]), number(&s[4..8]));
+        return mix(g, number(&s[n - 8..n - 4]), number(&s[n - 4..]));
     }
     if 4 <= n {
-        return mix(h, number(s, 0, 4), number(s, n - 4, 4));
+        return mix(h, number(&s[..4]), number(&s[n - 4..]));
     }
     if n == 0 {
         return mix(h, 0, 0);
     }
-    let v = (s[0] as u64 * 256 + s[n / 2] as u64) * 256 + s[n - 1] as u64;
-    mix(h, v, 0)
+    mix(h, number(&[s[0], s[n / 2], s[n - 1]]), 0)
 }
 
 pub fn mark(s: &[u8]) -> u64
     ensures { (result ≡ mark_of s.now) × (result < marks) }
 {
-    let mut h: u64 = 0;
-    let mut i = 0;
-    while Marks::MAX_END < s.len() - i {
-        h = mix(h, number(s, i, 4), number(s, i + 4, 4));
-        i += 8;
+    let mut h = 0;
+    let mut rest = s;
+    while Marks::MAX_END < rest.len() {
+        h = mix(h, number(&rest[..4]), number(&rest[4..8]));
+        rest = &rest[8..];
     }
-    end(h, &s[i..])
+    end(h, rest)
 }

@@ -1,6 +1,6 @@
 -- What a byte leads, and the bytes of a text one by one, with a count of the continuation bytes that are due. Assumes nothing.
 use Rattle.std.specs.Prelude.{None, Some}
-use mathlib.Core.Path.{◌≡◌, refl, sym, ap, ◌∙◌}
+use mathlib.Core.Path.{◌≡◌, refl, ap, ◌∙◌}
 use mathlib.Core.Logic.{⊎_elim, ◌≢◌}
 use mathlib.Core.Bool.{Bool, true, false, ◌&&◌}
 use mathlib.Core.List.{List, ◌∷◌}
@@ -15,7 +15,7 @@ use Rattle.format.specs.Choice.{pick}
 use Rattle.format.specs.Utf8.{within, leads, stop_after}
 use Rattle.format.proofs.Tests.{and_no_left, and_no_right, and-true, and_yes, cases, leb_yes, leb_no, eqb-true, order}
 use Rattle.format.proofs.Utf8.{due_after, fits, stop_here, stop-on}
-use Rattle.utf8.specs.Local.{due, due_count, passes}
+use Rattle.utf8.specs.Local.{due, due_count, passes, lead_of}
 
 -- ---- what each byte leads, by a test that is computed at all of them
 
@@ -29,19 +29,12 @@ every_at f zero e b h = absurd (omega arith)
 every_at f (suc n) e b h =
     ⊎_elim (λ q. rw q (and-true _ _ e).0) (λ l. every_at f n (and-true (f n) _ e).1 b l) (eq-or-lt_of_le (le_of_suc-le-suc h))
 
--- What a byte leads, by one bound after the other.
-unfoldable pub leads_by : ℕ → ℕ
-leads_by b = pick (leb b 0x7f) 0 (pick (leb b 0xc1) 4 (pick (leb b 0xdf) 1 (pick (leb b 0xef) 2 (pick (leb b 0xf4) 3 4))))
-
--- And by the local rule, where no byte is before it.
+-- By the local rule, where no byte is before it.
 by_rule : ℕ → Bool
 by_rule b = pick (passes 0 0 0 b) (ltb (leads b) 4 && eqb (due_count 0 0 b) (leads b)) (eqb (leads b) 4)
 
-right : ℕ → Bool
-right b = eqb (leads b) (leads_by b) && by_rule b
-
-table : every right 256 ≡ true
-unfolding every right by_rule passes leads leads_by due_count due pick within
+table : every by_rule 256 ≡ true
+unfolding every by_rule passes leads due_count due pick within
 table = refl
 
 module _ (b : ℕ) (h : 256 ≤ b) where
@@ -51,9 +44,9 @@ module _ (b : ℕ) (h : 256 ≤ b) where
   not_below : (n : ℕ) → n < 256 → leb b n ≡ false
   not_below n l = leb_no {a = b} {b = n} (omega arith)
 
-  right_beyond : right b ≡ true
-  unfolding right by_rule passes leads leads_by within due pick
-  right_beyond =
+  rule_beyond : by_rule b ≡ true
+  unfolding by_rule passes leads within due pick
+  rule_beyond =
       rw (
         above 0x80 (lit≤ tt),
         above 0xc0 (lit≤ tt),
@@ -70,24 +63,26 @@ module _ (b : ℕ) (h : 256 ≤ b) where
       )
 
 module _ (b : ℕ) where
-  right_at : (eqb (leads b) (leads_by b) ≡ true) × (by_rule b ≡ true)
-  unfolding right
-  right_at = and-true (eqb (leads b) (leads_by b)) (by_rule b) (order 256 b (right_beyond b) (every_at right 256 table b))
-
-  pub leads_by_lem : leads b ≡ leads_by b
-  leads_by_lem = eqb-true (leads b) (leads_by b) right_at.0
+  rule_at : by_rule b ≡ true
+  rule_at = order 256 b (rule_beyond b) (every_at by_rule 256 table b)
 
   pub rule-passes : passes 0 0 0 b ≡ true → (ltb (leads b) 4 ≡ true) × (due_count 0 0 b ≡ leads b)
   unfolding by_rule pick
   rule-passes e =
-      let h = and-true (ltb (leads b) 4) _ (rw e at right_at.1) in (h.0, eqb-true (due_count 0 0 b) (leads b) h.1)
+      let h = and-true (ltb (leads b) 4) _ (rw e at rule_at) in (h.0, eqb-true (due_count 0 0 b) (leads b) h.1)
 
   pub rule_fails : passes 0 0 0 b ≡ false → leads b ≡ 4
   unfolding by_rule pick
-  rule_fails e = eqb-true (leads b) 4 (rw e at right_at.1)
+  rule_fails e = eqb-true (leads b) 4 (rw e at rule_at)
 
-  few : leads b ≢ 4 → ltb (leads b) 4 ≡ true
-  few n = cases (passes 0 0 0 b) (λ e. (rule-passes e).0) (λ e. absurd (n (rule_fails e)))
+  -- what `lead_of` says
+  lead_is : (r : ℕ) → Some r ≡ lead_of b → (ltb (leads b) 4 ≡ true) × (leads b ≡ r)
+  unfolding pick
+  lead_is r e = cases (ltb (leads b) 4) (λ t. let g = rw t at e in (t, cc)) (λ f. let g = rw f at e in cc)
+
+  leads-nothing : None ≡ lead_of b → ltb (leads b) 4 ≡ false
+  unfolding pick
+  leads-nothing e = cases (ltb (leads b) 4) (λ t. let g = rw t at e in cc) (λ f. f)
 
 -- ---- the byte at i, where k continuation bytes are due
 
@@ -102,14 +97,13 @@ module _ (s : List ℕ) (i : ℕ) (h : i < length s) where
   here k = ap (stop_after k i) front
 
   -- none: the byte leads r of them, or nothing
-  module _ (k r : ℕ) (z : k ≡ 0) (q : r ≡ leads (get_or s i 0)) where
-    pub lead : r ≢ 4 → stop_after k i (drop i s) ≡ stop_after r (i + 1) (drop (i + 1) s)
-    unfolding fits due_after
-    lead n = rw (z, q) (here 0 ∙ stop-on 0 b i _ (few b (λ e. n (q ∙ e))))
+  pub lead : (k r : ℕ) → k ≡ 0 → Some r ≡ lead_of (get_or s i 0) → stop_after k i (drop i s) ≡ stop_after r (i + 1) (drop (i + 1) s)
+  unfolding fits due_after
+  lead k r z q = let (few, e) = lead_is b r q in rw (z, ← e) (here 0 ∙ stop-on 0 b i _ few)
 
-    pub no_lead : r ≡ 4 → stop_after k i (drop i s) ≡ Some i
-    unfolding fits
-    no_lead e = rw z (here 0 ∙ stop_here 0 b i _ (rw (sym q ∙ e)))
+  pub no_lead : (k : ℕ) → k ≡ 0 → None ≡ lead_of (get_or s i 0) → stop_after k i (drop i s) ≡ Some i
+  unfolding fits
+  no_lead k z q = rw z (here 0 ∙ stop_here 0 b i _ (leads-nothing b q))
 
   -- some: it is one of them, or is not
   pub tail : (k : ℕ) → k ≢ 0 → 0x80 ≤ get_or s i 0 → get_or s i 0 ≤ 0xbf

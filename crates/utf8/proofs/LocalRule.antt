@@ -5,14 +5,15 @@ use mathlib.Core.List.{List, [], ◌∷◌}
 use Prim.Native.Nat.{ℕ, zero, suc, ◌+◌, ◌-◌, ◌≤◌, ◌<◌}
 use native.Mathlib.Omega.{arith}
 use lib.Dec.{leb}
-use lib.ListN.{length, drop, get_or, drop_of_length-le}
+use lib.ListN.{length, take, drop, get_or, length-drop, drop_of_length-le}
+use lib.Seq.{drop-drop, get_or-drop, get_or-take, length-take-le}
 use Rattle.format.specs.Choice.{pick}
 use Rattle.format.specs.Utf8.{stop, stop_after, utf8, within}
-use Rattle.format.proofs.Tests.{and-true, cases, clash, leb_no, leb-true, leb-false, or-false as neither}
+use Rattle.format.proofs.Tests.{equal, and-true, cases, clash, leb_no, leb-true, leb-false, or-false as neither}
 use Rattle.format.proofs.Utf8.{due_after, fits, good-step}
-use Rattle.utf8.specs.Local.{due, due_count, passes, passes_at, Passing, good_after, good_from, Checked}
+use Rattle.utf8.specs.Local.{due, due_count, passes, passes_at, Passing, good_after, good_from, Checked, Judged}
 use Rattle.utf8.proofs.LeadBytes.{front, rule-passes, rule_fails}
-use Rattle.utf8.proofs.Ranges.{one_more, joined}
+use Rattle.utf8.proofs.Ranges.{joined}
 
 regroup : (a b c d : Bool) → a && (b && (c && d)) ≡ (a && b && c && d)
 regroup true b c d = sym (and_assoc b c d)
@@ -123,11 +124,36 @@ module _ (s : List ℕ) where
   failed zero a i q h p = let z : a ≡ i = omega arith in window a (omega arith) ∙ rw (z, p)
   failed (suc n) a i q h p = window a (omega arith) ∙ rw (failed n (a + 1) i (omega arith) h p) (and-false (passes_at s a))
 
-  pub checked_more : (a j : ℕ) (pass r : Bool) → a + j + 3 < length s → r ≡ passes_at s (a + j)
-      → Checked s a (a + j) pass → Checked s a (a + (j + 1)) (pass && r)
-  checked_more a j true r h q c =
-      ((λ e. one_more (λ i. passes_at s i ≡ true) a j (c.0 refl) (sym q ∙ e)), (λ e. failed j a (a + j) refl h (sym q ∙ e)))
-  checked_more a j false r h q c = ((λ e. clash e refl), (λ _. c.1 refl))
+  -- a window in a part of the bytes
+  window_at : (a m i : ℕ) → i + 3 < m → passes_at (take m (drop a s)) i ≡ passes_at s (a + i)
+  unfolding passes_at
+  window_at a m i h =
+      let e1 : a + (i + 1) ≡ a + i + 1 = omega arith in
+      let e2 : a + (i + 2) ≡ a + i + 2 = omega arith in
+      let e3 : a + (i + 3) ≡ a + i + 3 = omega arith in
+      rw (
+        get_or-take m (drop a s) i 0 (omega arith),
+        get_or-take m (drop a s) (i + 1) 0 (omega arith),
+        get_or-take m (drop a s) (i + 2) 0 (omega arith),
+        get_or-take m (drop a s) (i + 3) 0 h,
+        get_or-drop a s i 0,
+        get_or-drop a s (i + 1) 0,
+        get_or-drop a s (i + 2) 0,
+        get_or-drop a s (i + 3) 0,
+        e1,
+        e2,
+        e3,
+      )
+
+  -- what the windows of a block were found to be, in all bytes
+  pub checked : (a n m : ℕ) (r : Bool) → m ≡ n + 3 → a + n + 3 ≤ length s → Judged (take m (drop a s)) r → Checked s a (a + n) r
+  checked a n m r q h j =
+      let long : length (take m (drop a s)) ≡ m = length-take-le m (drop a s) (omega (arith, length-drop a s)) in (
+        (λ t i l u. let e : a + (i - a) ≡ i = omega arith in
+            rw (window_at a m (i - a) (omega arith), e) at (j.0 t (i - a) (omega arith))),
+        (λ f. let (i, u, w) = j.1 f in
+            failed i a (a + i) refl (omega arith) (sym (window_at a m i (omega arith)) ∙ w)),
+      )
 
   -- the first three bytes
   pub started : 3 ≤ length s
@@ -152,3 +178,46 @@ module _ (s : List ℕ) where
       let e1 : length s - 3 + 1 ≡ length s - 2 = omega arith in
       let e2 : length s - 3 + 2 ≡ length s - 1 = omega arith in
       rw (e1, e2) (over _ _ _ s (length s - 3 + 3) (omega arith))
+
+-- ---- the windows of a block, one by one: of xs, r is left
+
+pub record Judging (xs r : List ℕ) (pass : Bool) : Type 0 where
+  pub long : length r ≤ length xs
+  pub is : r ≡ drop (length xs - length r) xs
+  pub yes : pass ≡ true → (i : ℕ) → i < length xs - length r → passes_at xs i ≡ true
+  pub no : pass ≡ false → (i : ℕ) × (i + 3 < length xs) × (passes_at xs i ≡ false)
+
+pub judging : (xs : List ℕ) → Judging xs xs true
+judging xs =
+    let z : length xs - length xs ≡ 0 = omega arith in
+    record { long = omega arith; is = rw z; yes = λ _ i l. absurd (omega arith); no = λ e. clash refl e }
+
+module _ (xs r w r' : List ℕ) (b : Bool) (four : 4 ≤ length r) (ew : w ≡ take 4 r) (er : r' ≡ drop 1 r)
+    (eb : b ≡ passes (get_or w 0 0) (get_or w 1 0) (get_or w 2 0) (get_or w 3 0)) where
+  here : length r ≤ length xs → r ≡ drop (length xs - length r) xs → b ≡ passes_at xs (length xs - length r)
+  unfolding passes_at
+  here l e =
+      let i = length xs - length r in
+      let w0 : passes_at w 0 ≡ passes_at (take 4 (drop i xs)) 0 = ap (λ x. passes_at x 0) (ew ∙ ap (take 4) e) in
+      let z : i + 0 ≡ i = omega arith in
+      let q : b ≡ passes_at w 0 = eb in
+      q ∙ w0 ∙ window_at xs i 4 0 (omega arith) ∙ rw z
+
+  pub judge_more : (pass : Bool) → Judging xs r pass → Judging xs r' (pass && b)
+  judge_more pass g =
+      let i = length xs - length r in
+      let n : length r' + 1 ≡ length r = omega (arith, ap length er, length-drop 1 r) in
+      let e : length xs - length r' ≡ i + 1 = omega (arith, g.long) in
+      let q = here g.long g.is in
+      record {
+        long = omega (arith, g.long);
+        is = rw e (er ∙ ap (λ x. drop 1 x) g.is ∙ drop-drop 1 i xs);
+        yes = λ t k l. let (p, c) = and-true pass b t in
+            equal k i (λ z. rw z (sym q ∙ c)) (λ z. g.yes p k (omega arith));
+        no = λ f. cases pass
+            (λ p. (i, omega (arith, g.long), sym q ∙ rw p at f))
+            (λ p. g.no p);
+      }
+
+pub judged : (xs r : List ℕ) (pass : Bool) → Judging xs r pass → length r < 4 → Judged xs pass
+judged xs r pass g l = ((λ t i u. g.yes t i (omega arith)), g.no)

@@ -1,12 +1,16 @@
 -- UTF-8 by a local rule: whether a byte may stand where it does goes by the three bytes before it alone.
-use Rattle.std.specs.Prelude.{ℕ, ◌+◌, ◌*◌, ◌≤◌, ◌<◌, ◌≡◌, Bool, true, false, not, ◌&&◌, ◌||◌, List, leb, get_or, drop, is_none}
+use Rattle.std.specs.Prelude.{ℕ, ◌+◌, ◌*◌, ◌≤◌, ◌<◌, ◌≡◌, Bool, true, false, not, ◌&&◌, ◌||◌, List, length, leb, ltb, get_or, drop, is_none, Option, Some, None}
 use Rattle.std.specs.Bool.{beq}
 use Rattle.format.specs.Choice.{pick}
-use Rattle.format.specs.Utf8.{stop_after}
+use Rattle.format.specs.Utf8.{leads, stop_after}
 
 -- Bytes from an offset on are good where k continuation bytes are due first.
 abbrev pub good_after : ℕ → ℕ → List ℕ → Bool
 good_after k i bs = is_none (stop_after k i bs)
+
+-- How many continuation bytes a byte leads.
+abbrev pub lead_of : ℕ → Option ℕ
+lead_of b = pick (ltb (leads b) 4) (Some (leads b)) None
 
 -- A window: a byte, and so many before it.
 abbrev pub before : ℕ
@@ -47,6 +51,10 @@ good_from s i = good_after (due_count (get_or s i 0) (get_or s (i + 1) 0) (get_o
 -- What the windows from a up to e were found to be: all pass, or what follows a is not good.
 abbrev pub Checked : List ℕ → ℕ → ℕ → Bool → Type 0
 Checked s a e r = (r ≡ true → Passing s a e) × (r ≡ false → good_from s a ≡ false)
+
+-- What the windows of a block were found to be: all pass, or one does not.
+abbrev pub Judged : List ℕ → Bool → Type 0
+Judged s r = (r ≡ true → (i : ℕ) → i + 3 < length s → passes_at s i ≡ true) × (r ≡ false → (i : ℕ) × (i + 3 < length s) × passes_at s i ≡ false)
 
 -- The bytes from a up to e are ASCII.
 abbrev pub Ascii : List ℕ → ℕ → ℕ → Type 0

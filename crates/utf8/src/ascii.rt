@@ -15,21 +15,16 @@ impl Ends {
     pub const MAX_SHORT: usize = 2 * Ends::MAX;
 
     pub const STEP: usize = 64;
-    // With what stands before the first window.
-    const STEP_BYTES: usize = Ends::STEP + Window::BEFORE;
 }
 
-// Are the n bytes from a on ASCII below 0x7f? Callers know n, so that this becomes vector code; the test of the top
+// Are the bytes ASCII below 0x7f? Callers know how many they are, so that this becomes vector code; the test of the top
 // bit alone becomes slower code, so 0x7f is left to those that look closer.
-pub fn ascii_at(s: &[u8], a: usize, n: usize) -> bool
-    requires { a + n ≤ length s.now }
-    ensures { result ≡ true → Ascii s.now a (a + n) }
+fn is_ascii(s: &[u8]) -> bool
+    ensures { result ≡ true → Ascii s.now 0 (length s.now) }
 {
     let mut ascii = true;
-    let mut j = 0;
-    while j < n {
-        ascii = ascii & (s[a + j] < 0x7f);
-        j += 1;
+    for b in s {
+        ascii = ascii & (*b < 0x7f);
     }
     ascii
 }
@@ -39,7 +34,7 @@ pub fn ascii_ends(s: &[u8], k: usize) -> bool
     requires { (k ≤ length s.now) × (length s.now ≤ 2 * k) }
     ensures { result ≡ true → utf8 s.now ≡ true }
 {
-    ascii_at(s, 0, k) & ascii_at(s, s.len() - k, k)
+    is_ascii(&s[..k]) & is_ascii(&s[s.len() - k..])
 }
 
 // Is a short text all ASCII? Two reads of a fixed width that meet or overlap take less than a loop.
@@ -66,20 +61,28 @@ pub fn short_ascii(s: &[u8]) -> bool
     ascii_ends(s, n)
 }
 
-// How many windows at the front pass since their bytes are ASCII, counted by steps.
+// How many bytes at the front are ASCII, counted by steps.
 pub fn ascii_front(s: &[u8]) -> usize
+    ensures { (result ≤ length s.now) × Ascii s.now 0 result }
+{
+    let mut rest = s;
+    while let Some((step, more)) = rest.split_first_chunk::<{ Ends::STEP }>() {
+        if !is_ascii(step) {
+            break;
+        }
+        rest = more;
+    }
+    s.len() - rest.len()
+}
+
+// How many windows at the front pass since their bytes are ASCII, counted by steps.
+pub fn ascii_windows(s: &[u8]) -> usize
     requires { before ≤ length s.now }
     ensures { Passing s.now 0 result }
 {
-    if !ascii_at(s, 0, Window::BEFORE) {
-        return 0;
+    if is_ascii(&s[..Window::BEFORE]) {
+        ascii_front(&s[Window::BEFORE..])
+    } else {
+        0
     }
-    let mut i = 0;
-    while Ends::STEP_BYTES <= s.len() - i {
-        if !ascii_at(s, i + Window::BEFORE, Ends::STEP) {
-            return i;
-        }
-        i += Ends::STEP;
-    }
-    i
 }

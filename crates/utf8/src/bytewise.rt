@@ -1,30 +1,22 @@
 // UTF-8 byte by byte: for a text with no room for a block, and for the place at which a text stops being good.
 ghost use Rattle.std.specs.Prelude.{◌≡◌, ◌≤◌, length};
-ghost use Rattle.format.specs.Utf8.{bad_at, leads, stop, utf8};
-ghost use Rattle.utf8.specs.Local.{Ascii};
+ghost use Rattle.format.specs.Utf8.{bad_at, stop, utf8};
+ghost use Rattle.utf8.specs.Local.{Ascii, lead_of};
 
-use crate::ascii::{Ends, ascii_at};
+use crate::ascii::ascii_front;
 
-// How many continuation bytes a byte leads; 4 for one that leads nothing.
-fn leads(b: u8) -> usize
-    ensures { result ≡ leads b }
+// How many continuation bytes a byte leads; none for one that leads nothing.
+#[tactic(auto, unfolding(format::specs::Utf8::leads, format::specs::Utf8::within, format::specs::Choice::pick))]
+fn leads(b: u8) -> Option<usize>
+    ensures { result ≡ lead_of b }
 {
-    if b <= 0x7f {
-        return 0;
+    match b {
+        0..=0x7f => Some(0),
+        0xc2..=0xdf => Some(1),
+        0xe0..=0xef => Some(2),
+        0xf0..=0xf4 => Some(3),
+        _ => None,
     }
-    if b <= 0xc1 {
-        return 4;
-    }
-    if b <= 0xdf {
-        return 1;
-    }
-    if b <= 0xef {
-        return 2;
-    }
-    if b <= 0xf4 {
-        return 3;
-    }
-    4
 }
 
 // The place at which a text stops being good, byte by byte, after ASCII, with a count of the continuation bytes that are due.
@@ -32,31 +24,21 @@ fn scan(s: &[u8], from: usize) -> Option<usize>
     requires { (from ≤ length s.now) × Ascii s.now 0 from }
     ensures { result ≡ stop s.now }
 {
-    let mut k: usize = 0;
-    let mut i = from;
-    while i < s.len() {
-        let at = i;
+    let mut due = 0;
+    for at in from..s.len() {
         let b = s[at];
-        i += 1;
-        if k == 0 {
-            k = leads(b);
-            if k == 4 {
+        if due == 0 {
+            let Some(n) = leads(b) else {
                 return Some(at);
-            }
+            };
+            due = n;
+        } else if 0x80 <= b && b <= 0xbf {
+            due -= 1;
         } else {
-            if b < 0x80 {
-                return Some(at);
-            }
-            if 0xbf < b {
-                return Some(at);
-            }
-            k -= 1;
+            return Some(at);
         }
     }
-    if k == 0 {
-        return None;
-    }
-    Some(i)
+    if due == 0 { None } else { Some(s.len()) }
 }
 
 // A text with no room for a block.
@@ -74,12 +56,5 @@ pub fn by_bytes(s: &[u8]) -> bool
 pub fn bad_at(s: &[u8]) -> usize
     ensures { result ≡ bad_at s.now }
 {
-    let mut i = 0;
-    while Ends::STEP <= s.len() - i {
-        if !ascii_at(s, i, Ends::STEP) {
-            return scan(s, i).unwrap_or(0);
-        }
-        i += Ends::STEP;
-    }
-    scan(s, i).unwrap_or(0)
+    scan(s, ascii_front(s)).unwrap_or(0)
 }

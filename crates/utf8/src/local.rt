@@ -1,9 +1,9 @@
 // UTF-8 by a local rule, which looks at a byte and the three before it: no branch on the data, so that it becomes vector code.
-ghost use Rattle.std.specs.Prelude.{◌≡◌, not, ◌&&◌, ◌+◌, ◌-◌, ◌≤◌, min, length};
+ghost use Rattle.std.specs.Prelude.{◌≡◌, not, ◌&&◌, ◌+◌, ◌-◌, ◌≤◌, length};
 ghost use Rattle.format.specs.Utf8.{utf8};
-ghost use Rattle.utf8.specs.Local.{before, block_bytes, due, passes, Passing, good_from, Checked};
+ghost use Rattle.utf8.specs.Local.{before, block_bytes, due, passes, Passing, good_from, Judged};
 
-use crate::ascii::ascii_front;
+use crate::ascii::ascii_windows;
 
 // A window is a byte and those before it that the rule looks at; a block is so many windows, one byte further each.
 #[derive(Clone, Copy)]
@@ -18,6 +18,7 @@ impl Window {
 }
 
 // The local rule: may b come after p3, p2 and p1, the bytes three, two and one before it?
+#[tactic(auto, unfolding(crate::specs::Local::passes, crate::specs::Local::due))]
 fn may_follow(p3: u8, p2: u8, p1: u8, b: u8) -> bool
     ensures { result ≡ passes p3 p2 p1 b }
 {
@@ -28,6 +29,7 @@ fn may_follow(p3: u8, p2: u8, p1: u8, b: u8) -> bool
 }
 
 // May a text end after p3, p2 and p1?
+#[tactic(auto, unfolding(crate::specs::Local::due))]
 fn may_end(p3: u8, p2: u8, p1: u8) -> bool
     ensures { result ≡ not (due p3 p2 p1) }
 {
@@ -45,26 +47,16 @@ fn starts(s: &[u8]) -> bool
     may_follow(0, 0, 0, x) & may_follow(0, 0, x, y) & may_follow(0, x, y, z)
 }
 
-// The local rule in the n windows from a on. With no branch, and n known at the call, this becomes vector code.
-fn block(s: &[u8], a: usize, n: usize) -> bool
-    requires { a + n + before ≤ length s.now }
-    ensures { Checked s.now a (a + n) result }
+// The local rule in all windows of a block. With no branch, and as many of them known at the call, this becomes vector code.
+fn block(s: &[u8]) -> bool
+    requires { before ≤ length s.now }
+    ensures { Judged s.now result }
 {
     let mut pass = true;
-    let mut j = 0;
-    while j < n {
-        let i = a + j;
-        pass = pass & may_follow(s[i], s[i + 1], s[i + 2], s[i + 3]);
-        j += 1;
+    for &[p3, p2, p1, b] in s.array_windows::<4>() {
+        pass = pass & may_follow(p3, p2, p1, b);
     }
     pass
-}
-
-// The smaller number.
-fn smaller(a: usize, b: usize) -> usize
-    ensures { result ≡ min a b }
-{
-    if a < b { a } else { b }
 }
 
 // The local rule in the windows from a on, by blocks. The last block ends at the end, and may look at some windows again.
@@ -76,8 +68,8 @@ fn blocks(s: &[u8], a: usize) -> bool
     let last = s.len() - Window::BLOCK_BYTES;
     let mut i = a;
     loop {
-        let at = smaller(i, last);
-        if !block(s, at, Window::PER_BLOCK) {
+        let at = i.min(last);
+        if !block(&s[at..at + Window::BLOCK_BYTES]) {
             return false;
         }
         if last <= at {
@@ -95,7 +87,7 @@ pub fn long(s: &[u8]) -> bool
     if !starts(s) {
         return false;
     }
-    if !blocks(s, ascii_front(s)) {
+    if !blocks(s, ascii_windows(s)) {
         return false;
     }
     let n = s.len();

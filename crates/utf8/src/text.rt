@@ -10,10 +10,8 @@ use crate::local::{Window, long};
 pub fn is_utf8(s: &[u8]) -> bool
     ensures { result ≡ utf8 s.now }
 {
-    if s.len() <= Ends::MAX_SHORT {
-        if short_ascii(s) {
-            return true;
-        }
+    if s.len() <= Ends::MAX_SHORT && short_ascii(s) {
+        return true;
     }
     if s.len() < Window::BLOCK_BYTES {
         return by_bytes(s);
@@ -25,13 +23,5 @@ pub fn is_utf8(s: &[u8]) -> bool
 pub fn is_utf8_name(s: &[u8]) -> bool
     ensures { result ≡ utf8 s.now }
 {
-    let n = s.len();
-    if 16 <= n {
-        if n <= 32 {
-            if ascii_ends(s, 16) {
-                return true;
-            }
-        }
-    }
-    is_utf8(s)
+    (16..=32).contains(&s.len()) && ascii_ends(s, 16) || is_utf8(s)
 }

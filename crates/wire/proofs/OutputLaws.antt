@@ -1,48 +1,40 @@
 -- Numbers, headers and bytes, as they are written. Assumes nothing.
 use mathlib.Core.Path.{◌≡◌, refl, ap, sym, ◌∙◌}
-use mathlib.Core.Bool.{Bool, true, false}
 use mathlib.Core.List.{List, [], ◌∷◌, ◌++◌}
-use Prim.Native.Nat.{ℕ, suc, ◌+◌, ◌-◌, ◌*◌, ◌/◌, ◌%◌, ◌^◌, ◌≤◌, ◌<◌}
-use native.Mathlib.Numerals.{add-one}
+use Prim.Native.Nat.{ℕ, zero, suc, ◌+◌, ◌-◌, ◌*◌, ◌/◌, ◌%◌, ◌^◌, ◌≤◌, ◌<◌}
+use native.Mathlib.Nat.{zero-add}
 use native.Mathlib.Omega.{arith}
-use lib.Dec.{ltb}
-use lib.ListN.{length, take, drop, get_or, set, length-set}
-use lib.Seq.{drop-cons, drop-length}
+use lib.ListN.{length, take, drop, set, length-set}
+use lib.Seq.{take_all}
 use borrow.Rule.Slice.PartMut.{put_mid}
+use Rattle.std.specs.Int.{bytes_high_first}
 use Rattle.format.specs.Header.{digits, shift, width, header}
-use Rattle.format.proofs.Tests.{cases, ltb_yes, ltb_no, pick_yes, pick_no}
+use Rattle.format.proofs.Tests.{ltb_yes, ltb_no, pick_yes, pick_no}
 use Rattle.format.proofs.Numbers.{length_digits, digits-first}
 use Rattle.format.proofs.Headers.{length-short}
-use Rattle.wire.proofs.Powers.{pow_256}
 use Rattle.wire.proofs.WidthLaws.{width_one}
 use Rattle.wire.proofs.Wrote.{Wrote, start, byte_as, finish, byte_fits, byte_then}
 
 -- ---- numbers
 
--- one digit, and those after it; e is how far the number is shifted
-pub digits_step : (k i n e : ℕ) → i < k → e ≡ 8 * (k - 1 - i) → digits (k - i) n ≡ n / 2 ^ e % 256 ∷ digits (k - (i + 1)) n
-digits_step k i n e h q =
-    let f : k - i ≡ suc (k - 1 - i) = omega arith in
-    let g : k - (i + 1) ≡ k - 1 - i = omega arith in
-    rw (q, f, g, digits-first (k - 1 - i) n, pow_256 (k - 1 - i))
-
-pub digits-none : (k n : ℕ) → k ≡ 0 → digits k n ≡ []
+-- the library's bytes of a number are its digits
+digits-high : (k n : ℕ) → bytes_high_first k n ≡ digits k n
 unfolding digits
-digits-none k n h = rw h
+digits-high zero n = refl
+digits-high (suc zero) n = refl
+digits-high (suc (suc k)) n = ap (λ ds. n / 256 ^ suc k % 256 ∷ ds) (digits-high (suc k) n) ∙ sym (digits-first (suc k) n)
 
--- ---- the rest of a list
+drop_high : (j k n : ℕ) → drop j (bytes_high_first (j + k) n) ≡ bytes_high_first k n
+drop_high zero k n = rw zero-add
+drop_high (suc j) k n = let e : suc j + k ≡ suc (j + k) = omega arith in rw e (drop_high j k n)
 
-pub rest-step : (s : List ℕ) (i : ℕ) → i < length s → drop i s ≡ get_or s i 0 ∷ drop (i + 1) s
-rest-step s i h = rw (add-one, drop-cons s i 0 h)
-
-pub rest_end : (s : List ℕ) (i : ℕ) → i ≡ length s → drop i s ≡ []
-rest_end s i h = rw h (drop-length s)
-
--- ---- a payload in the lead byte
-
--- a test that says what `ltb` says
-pub is-ltb : (a m : ℕ) (b : Bool) → (b ≡ true → a < m) → (b ≡ false → m ≤ a) → b ≡ ltb a m
-is-ltb a m b f g = cases b (λ e. e ∙ sym (ltb_yes (f e))) (λ e. e ∙ sym (ltb_no (g e)))
+-- and the last k of them are its last k digits
+pub last_digits : (k n : ℕ) → k ≤ 8 → take (8 - (8 - k)) (drop (8 - k) (bytes_high_first 8 n)) ≡ digits k n
+last_digits k n h =
+    let e : 8 ≡ 8 - k + k = omega arith in
+    let f : drop (8 - k) (bytes_high_first 8 n) ≡ digits k n =
+    ap (λ m. drop (8 - k) (bytes_high_first m n)) e ∙ drop_high (8 - k) k n ∙ digits-high k n in
+    rw f (take_all (8 - (8 - k)) (digits k n) (omega (arith, length_digits k n)))
 
 -- ---- the bytes of the shortest header
 

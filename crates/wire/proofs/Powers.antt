@@ -29,16 +29,16 @@ before acc (b ∷ bs) p =
     ) (digits_div acc p.0)
 
 -- The first n of m bytes.
-pub first-bytes : (s : List ℕ) (a n m : ℕ) → ((i : ℕ) → get_or s i 0 < 256) → a + m ≤ length s → n ≤ m
-    → big_endian 0 (take m (drop a s)) / 2 ^ (8 * (m - n)) ≡ big_endian 0 (take n (drop a s))
-first-bytes s a n m b l u =
-    let xs = take m (drop a s) in
-    let long : length xs ≡ m = length-take-le m (drop a s) (omega (arith, length-drop a s)) in
+pub first-bytes : (s : List ℕ) (n m : ℕ) → ((i : ℕ) → get_or s i 0 < 256) → m ≤ length s → n ≤ m
+    → big_endian 0 (take m s) / 2 ^ (8 * (m - n)) ≡ big_endian 0 (take n s)
+first-bytes s n m b l u =
+    let xs = take m s in
+    let long : length xs ≡ m = length-take-le m s l in
     let rest : length (drop n xs) ≡ m - n = length-drop n xs ∙ ap (λ (k : ℕ). k - n) long in
-    let front : take n xs ≡ take n (drop a s) = take-take n m (drop a s) u in
-    let whole : big_endian 0 xs ≡ big_endian (big_endian 0 (take n (drop a s))) (drop n xs) =
+    let front : take n xs ≡ take n s = take-take n m s u in
+    let whole : big_endian 0 xs ≡ big_endian (big_endian 0 (take n s)) (drop n xs) =
     ap (big_endian 0) (sym (take-append-drop n xs)) ∙ big_endian-append 0 (take n xs) (drop n xs)
     ∙ ap (λ (ys : List ℕ). big_endian (big_endian 0 ys) (drop n xs)) front in
-    let small : Bytes (drop n xs) = all_drop Byte n xs (all_take Byte m (drop a s) (all_drop Byte a s (bytes_of s (λ i _. b i)))) in
+    let small : Bytes (drop n xs) = all_drop Byte n xs (all_take Byte m s (bytes_of s (λ i _. b i))) in
     ap (λ (k : ℕ). big_endian 0 xs / k) (sym (pow_256 (m - n)) ∙ ap (λ (k : ℕ). 256 ^ k) (sym rest))
     ∙ ap (λ (x : ℕ). x / 256 ^ length (drop n xs)) whole ∙ before _ (drop n xs) small

@@ -58,9 +58,9 @@ one_byte {p} o fits =
 -- ---- the length of a header
 
 -- A byte more than the width, unless the payload stands in the lead byte.
-pub length-sum : (code p : ℕ) (inline : Bool) → inline ≡ ltb (p + shift code) (max_inline + 1)
+pub length_sum : (code p : ℕ) (inline : Bool) → inline ≡ ltb (p + shift code) (max_inline + 1)
     → width p + bool_byte (not inline) ≡ length (header code p)
-length-sum code p inline e =
+length_sum code p inline e =
     order (max_inline + 1) (p + shift code)
     (λ l. rw (e, ltb_no l) (omega (arith, length-long code p l)))
     (λ l. rw (e, ltb_yes l) (omega (arith, length-short code p l, width_one p (omega arith))))

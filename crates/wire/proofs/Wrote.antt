@@ -40,9 +40,6 @@ module _ {w l₀ l : List ℕ} {n : ℕ} where
       let f : take n l ≡ w = sym (append-nil (take n l)) ∙ h.front in
       (e, sym (take-append-drop n l) ∙ ap (λ (x : List ℕ). x ++ drop n l) f ∙ ap (λ (x : List ℕ). w ++ x) (h.back ∙ ap (λ (x : ℕ). drop x l₀) e))
 
-  pub finish_as : {rest : List ℕ} → Wrote w l₀ l n rest → rest ≡ [] → n ≤ length l → (n ≡ length w) × (l ≡ w ++ drop (length w) l₀)
-  finish_as h e le = finish (subst (λ (x : List ℕ). Wrote w l₀ l n x) e h) le
-
   -- all of it, by the length before
   pub finish_all : Wrote w l₀ l n [] → n ≤ length l₀ → (n ≡ length w) × (l ≡ w ++ drop (length w) l₀)
   finish_all h le = finish h (omega (arith, h.long))
@@ -110,20 +107,3 @@ module _ (w l₀ h ys : List ℕ) (b r : ℕ) (ew : w ≡ b ∷ h) (capacity : l
       let s = length-set l₀ 0 b in
       let e = ap length ew in
       part_back h ys r (byte_as (start w l₀) ew (omega arith)) (sym (append-nil h)) (omega arith) capacity er ey
-
--- ---- two parts: the first at the start, the second through the tail
-
-module _ (h g l₀ l ys : List ℕ) (n m : ℕ) (en : n ≡ length h) (el : l ≡ h ++ drop (length h) l₀)
-    (capacity : length (h ++ g) ≤ length l₀) where
-  pub both_first : Wrote (h ++ g) l₀ l n g
-  both_first = wrote_front h g l₀ l n en el (omega (arith, length-append h g))
-
-  pub both-start : n ≤ length l
-  both-start = omega (arith, both_first.long, length-append h g)
-
-  pub both-fits : length g ≤ length (take (length l - n) (drop n l))
-  both-fits = rw (tail n l, length-drop n l) (omega (arith, both_first.long, length-append h g))
-
-  pub both_wrote : m ≡ length g → ys ≡ g ++ drop (length g) (take (length l - n) (drop n l))
-      → Wrote (h ++ g) l₀ (put_mid n (length l - n) l ys) (n + m) []
-  both_wrote em ey = part_back g ys m both_first (sym (append-nil g)) both-start capacity em ey

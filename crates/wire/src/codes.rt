@@ -9,21 +9,17 @@ use format::Header;
 pub fn is_integer(code: u8) -> bool
     ensures { result ≡ (leb Code.positive code && leb code Code.negative) }
 {
-    if code < Header::POSITIVE {
-        return false;
-    }
-    code <= Header::NEGATIVE
+    (Header::POSITIVE..=Header::NEGATIVE).contains(&code)
 }
 
 // The number of an integer or a container with a payload.
+#[tactic(auto, unfolding(crate::specs::Numbers::number_of, format::specs::Choice::pick))]
 pub fn number_of(code: u8, p: u64) -> u64
     ensures { result ≡ number_of code p }
 {
     // the payload first: signs of integers cannot be foretold
-    if p == Header::NEGATIVE_ALIAS {
-        if code == Header::NEGATIVE {
-            return Header::NEGATIVE_ALIAS - 1;
-        }
+    if p == Header::NEGATIVE_ALIAS && code == Header::NEGATIVE {
+        return Header::NEGATIVE_ALIAS - 1;
     }
     p
 }

@@ -34,17 +34,14 @@ pub fn code_of(kind: u8) -> u8
     kind - Header::KIND_SHIFT
 }
 
-// The number in n bytes from a on, most significant first.
-pub fn number(s: &[u8], a: usize, n: usize) -> u64
-    requires { (a + n ≤ length s.now) × (n ≤ max_following) }
-    ensures { result ≡ big_endian 0 (take n (drop a s.now)) }
+// The number in bytes, most significant first.
+pub fn number(bytes: &[u8]) -> u64
+    requires { length bytes.now ≤ max_following }
+    ensures { result ≡ big_endian 0 bytes.now }
 {
-    let mut p: u64 = 0;
-    let mut i = 0;
-    while i < n {
-        let b = s[a + i];
-        p = p * 256 + b as u64;
-        i += 1;
+    let mut p = 0;
+    for b in bytes {
+        p = p * 256 + u64::from(*b);
     }
     p
 }
@@ -55,87 +52,80 @@ fn span(left: usize, n: usize) -> usize
     ensures { (n ≤ result) × (result ≤ left) × (result ≤ max_following) }
 {
     if Lead::MAX_FOLLOWING <= left {
-        return Lead::MAX_FOLLOWING;
+        Lead::MAX_FOLLOWING
+    } else {
+        n
     }
-    n
 }
 
-// The payload in n bytes from a on.
-fn payload(s: &[u8], a: usize, n: usize) -> u64
-    requires { (a + n ≤ length s.now) × (1 ≤ n) × (n ≤ max_following) }
-    ensures { result ≡ big_endian 0 (take n (drop a s.now)) }
+// The payload in the first n bytes.
+fn payload(s: &[u8], n: usize) -> u64
+    requires { (1 ≤ n) × (n ≤ length s.now) × (n ≤ max_following) }
+    ensures { result ≡ big_endian 0 (take n s.now) }
 {
     // most payloads that are not in the lead byte
     if n == 1 {
-        return s[a] as u64;
+        return u64::from(s[0]);
     }
-    let m = span(s.len() - a, n);
-    number(s, a, m) >> (8 * (m - n))
+    let m = span(s.len(), n);
+    number(&s[..m]) >> (8 * (m - n))
 }
 
 // How many bytes follow a lead byte.
+#[tactic(auto, unfolding(format::specs::Header::following, format::specs::Choice::pick))]
 fn following(code: u8, sz: u8) -> usize
     requires { sz < sizes }
     ensures { result ≡ following code sz }
 {
-    let z = sz as u64;
+    let z = u64::from(sz);
     if Header::MAX_INLINE < z {
         return (z - Header::MAX_INLINE) as usize;
     }
-    if code == Header::BINARY {
-        if sz == Row::FLOAT32 {
-            return 4;
-        }
-        if sz == Row::FLOAT64 {
-            return 8;
-        }
+    match (code, sz) {
+        (Header::BINARY, Row::FLOAT32) => 4,
+        (Header::BINARY, Row::FLOAT64) => 8,
+        _ => 0,
     }
-    0
 }
 
 // The payload that a lead byte has in itself.
+#[tactic(auto, unfolding(format::specs::Header::shift, format::specs::Choice::pick))]
 fn inline_payload(code: u8, sz: u8) -> u64
     ensures { result ≡ sz - shift code }
 {
-    let z = sz as u64;
+    let z = u64::from(sz);
     if code == Header::BINARY {
-        if z < Header::FIXED {
-            return 0;
-        }
-        return z - Header::FIXED;
+        z.saturating_sub(Header::FIXED)
+    } else {
+        z
     }
-    z
 }
 
 // The header at an offset; none where the bytes end inside it.
 pub fn header_at(s: &[u8], at: usize) -> Option<Header>
     ensures { result ≡ header_of (drop at s.now) }
 {
-    if s.len() <= at {
-        return None;
-    }
-    let lead = s[at];
+    let lead = *s.get(at)?;
     let code = lead / Lead::SIZES;
     let sz = lead % Lead::SIZES;
     // most headers: one byte with the payload in it
-    if code != Header::BINARY {
-        if sz as u64 <= Header::MAX_INLINE {
-            return Some(Header::new(code, sz, sz as u64, 1));
-        }
+    if code != Header::BINARY && u64::from(sz) <= Header::MAX_INLINE {
+        return Some(Header::new(code, sz, u64::from(sz), 1));
     }
     let n = following(code, sz);
-    let b = at + 1;
-    if s.len() - b < n {
+    let rest = &s[at + 1..];
+    if rest.len() < n {
         return None;
     }
     if n == 0 {
         return Some(Header::new(code, sz, inline_payload(code, sz), 1));
     }
-    Some(Header::new(code, sz, payload(s, b, n), 1 + n))
+    Some(Header::new(code, sz, payload(rest, n), 1 + n))
 }
 
 // The fewest bytes, from 1 to 8, that hold p: its bits without the leading zeros, in whole bytes. 0 takes a byte too, so
 // the last bit counts as set. No branch, since payloads of mixed widths cannot be foretold.
+#[tactic(auto, using(crate::proofs::WidthLaws::width_by_zeros))]
 pub fn width(p: u64) -> usize
     ensures { result ≡ width p }
 {
@@ -144,6 +134,7 @@ pub fn width(p: u64) -> usize
 }
 
 // Does the payload stand in the lead byte?
+#[tactic(auto, unfolding(format::specs::Header::shift, format::specs::Choice::pick))]
 pub fn is_inline(code: u8, p: u64) -> bool
     ensures { result ≡ ltb (p + shift code) (max_inline + 1) }
 {
@@ -154,6 +145,7 @@ pub fn is_inline(code: u8, p: u64) -> bool
 }
 
 // The length of the shortest header: a payload that stands in the lead byte has width 1, any other stands after it.
+#[tactic(auto, using(format::proofs::Numbers::width_holds, crate::proofs::WidthLaws::length_sum))]
 pub fn header_len(code: u8, p: u64) -> usize
     ensures { result ≡ length (header code p) }
 {
@@ -161,12 +153,9 @@ pub fn header_len(code: u8, p: u64) -> usize
 }
 
 // Is the header longer than it has to be?
+#[tactic(auto, unfolding(format::specs::Header::is_long))]
 pub fn is_long(h: Header) -> bool
     ensures { result ≡ is_long h }
 {
-    let sz = h.sz;
-    if sz as u64 <= Header::MAX_INLINE {
-        return false;
-    }
-    header_len(h.code, h.payload) < h.size
+    u64::from(h.sz) > Header::MAX_INLINE && header_len(h.code, h.payload) < h.size
 }

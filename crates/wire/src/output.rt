@@ -13,15 +13,13 @@ pub fn put_number(out: &mut [u8], k: usize, n: u64) -> usize
     requires { (k ≤ max_following) × (k ≤ length out.old) }
     ensures { (result ≡ k) × (out.new ≡ digits k n ++ drop k out.old) }
 {
-    let mut i = 0;
-    while i < k {
-        out[i] = ((n >> (8 * (k - 1 - i))) % 256) as u8;
-        i += 1;
-    }
-    i
+    let bytes = n.to_be_bytes();
+    out[..k].copy_from_slice(&bytes[bytes.len() - k..]);
+    k
 }
 
 // The lead byte that has the payload in it.
+#[tactic(auto, unfolding(format::specs::Header::shift, format::specs::Choice::pick))]
 fn inline_lead(code: u8, p: u64) -> u8
     requires { (code < codes) × (p + shift code ≤ max_inline) }
     ensures { result ≡ code * sizes + (p + shift code) }
@@ -56,10 +54,6 @@ pub fn copy(out: &mut [u8], from: &[u8]) -> usize
     requires { length from.now ≤ length out.old }
     ensures { Puts from.now result out.old out.new }
 {
-    let mut n = 0;
-    while n < from.len() {
-        out[n] = from[n];
-        n += 1;
-    }
-    n
+    out[..from.len()].copy_from_slice(from);
+    from.len()
 }

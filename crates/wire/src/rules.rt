@@ -10,18 +10,12 @@ use utf8::is_utf8;
 pub fn key_after_key(keyed: usize, kind: u8) -> bool
     ensures { result ≡ (eqb keyed 1 && eqb kind Kind.key) }
 {
-    if keyed != 1 {
-        return false;
-    }
-    kind == Row::KEY
+    keyed == 1 && kind == Row::KEY
 }
 
 // A string that is not UTF-8; bytes pass.
 pub fn bad_text(string: bool, part: &[u8]) -> bool
     ensures { result ≡ (string && not (utf8 part.now)) }
 {
-    if string {
-        return !is_utf8(part);
-    }
-    false
+    string && !is_utf8(part)
 }

@@ -25,11 +25,6 @@ bounds-out-1 t c =
     let q = two_digits c.args.n c.args.out.now c.requires c.if-n-lt10.false c.if-n-lt100.true in
     omega (arith, room (next_byte q))
 
-pub shape_of-out-then-n-lt100 : goal.shape_of-out-then-n-lt100
-shape_of-out-then-n-lt100 t c =
-    let q = two_digits c.args.n c.args.out.now c.requires c.if-n-lt10.false c.if-n-lt100.true in
-    (next_byte (next_byte q)).wrote.long
-
 pub returns-then-n-lt100 : goal.returns-then-n-lt100
 returns-then-n-lt100 t c =
     let q = two_digits c.args.n c.args.out.now c.requires c.if-n-lt10.false c.if-n-lt100.true in
@@ -45,29 +40,11 @@ bounds-out-at t c =
     c.ranges.n.fits _ _ c.put_decimal-at.ensures in
     omega (arith, room q)
 
-pub overflow_add-out-4 : goal.overflow_add-out-4
-overflow_add-out-4 t c =
-    let q = last_digits c.args.n c.args.out.now c.requires c.if-n-lt100.false
-    c.ranges.n.fits _ _ c.put_decimal-at.ensures in
-    omega (arith, room q, q.wrote.long, c.well_formed)
-
 pub bounds-out-at-2 : goal.bounds-out-at-2
 bounds-out-at-2 t c =
     let q = last_digits c.args.n c.args.out.now c.requires c.if-n-lt100.false
     c.ranges.n.fits _ _ c.put_decimal-at.ensures in
     omega (arith, room (next_byte q))
-
-pub overflow_add-result : goal.overflow_add-result
-overflow_add-result t c =
-    let q = last_digits c.args.n c.args.out.now c.requires c.if-n-lt100.false
-    c.ranges.n.fits _ _ c.put_decimal-at.ensures in
-    omega (arith, room (next_byte q), (next_byte q).wrote.long, c.well_formed)
-
-pub shape_of-out : goal.shape_of-out
-shape_of-out t c =
-    let q = last_digits c.args.n c.args.out.now c.requires c.if-n-lt100.false
-    c.ranges.n.fits _ _ c.put_decimal-at.ensures in
-    (next_byte (next_byte q)).wrote.long
 
 pub returns : goal.returns
 returns t c =

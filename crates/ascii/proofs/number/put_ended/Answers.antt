@@ -17,13 +17,6 @@ bounds-out-at c =
     c.requires _ _ c.put_decimal-at.ensures in
     omega (arith, room q)
 
-pub overflow_add-result : goal.overflow_add-result
-unfolding ended
-overflow_add-result c =
-    let q = first (decimal c.args.n) ((c.args.end ∷ []) ∷ []) c.args.out.now
-    c.requires _ _ c.put_decimal-at.ensures in
-    omega (arith, room q, q.wrote.long, c.well_formed)
-
 pub returns : goal.returns
 unfolding ended
 returns c =

@@ -5,7 +5,7 @@ use native.Mathlib.Omega.{arith}
 use lib.ListN.{length-set}
 use Rattle.format.proofs.Headers.{following-single, following_double, following-small}
 use Rattle.encoder.proofs.Lengths.{length-fixed}
-use Rattle.encoder.proofs.OutputLaws.{fixed-fits, fixed_wrote, fixed-puts, lead_puts}
+use Rattle.encoder.proofs.OutputLaws.{fixed-fits, fixed-puts, lead_puts}
 use Rattle.encoder.proofs.putting.put_fixed.Goals as goal
 
 pub bounds-out-0 : goal.bounds-out-0
@@ -45,12 +45,6 @@ put_number-requires c = (
       (following-single 0 _ refl c.if-kind-eq-FLOAT32.true) c.requires.1,
 )
 
-pub shape_of-out-then-kind-eq-FLOAT32 : goal.shape_of-out-then-kind-eq-FLOAT32
-shape_of-out-then-kind-eq-FLOAT32 c =
-    (fixed_wrote (record { kind = c.args.kind; number = c.args.number; content = [] }) c.args.out.now 4
-    c.requires.0 (following-single 0 _ refl c.if-kind-eq-FLOAT32.true)
-    c.requires.1 _ _ c.put_number.ensures.0 c.put_number.ensures.1).long
-
 pub returns-then-kind-eq-FLOAT32 : goal.returns-then-kind-eq-FLOAT32
 returns-then-kind-eq-FLOAT32 c =
     fixed-puts (record { kind = c.args.kind; number = c.args.number; content = [] }) c.args.out.now 4
@@ -89,12 +83,6 @@ put_number-requires-then-kind-eq-FLOAT64 c = (
   }) c.args.out.now 8 c.requires.0
       (following_double 0 _ refl c.if-kind-eq-FLOAT64.true) c.requires.1,
 )
-
-pub shape_of-out-then-kind-eq-FLOAT64 : goal.shape_of-out-then-kind-eq-FLOAT64
-shape_of-out-then-kind-eq-FLOAT64 c =
-    (fixed_wrote (record { kind = c.args.kind; number = c.args.number; content = [] }) c.args.out.now 8
-    c.requires.0 (following_double 0 _ refl c.if-kind-eq-FLOAT64.true)
-    c.requires.1 _ _ c.put_number-then-kind-eq-FLOAT64.ensures.0 c.put_number-then-kind-eq-FLOAT64.ensures.1).long
 
 pub returns-then-kind-eq-FLOAT64 : goal.returns-then-kind-eq-FLOAT64
 returns-then-kind-eq-FLOAT64 c =

@@ -2,8 +2,8 @@
 use Rattle.symbols.proofs.ChainLaws.{Along}
 use Rattle.symbols.proofs.lookup.find.Given as goal
 
-abbrev pub invariant-loop-v : goal.invariant-loop-v
-invariant-loop-v l = Along l.first l.second l.entries l.count l.kind l.key l.content l.v
+abbrev pub invariant-loop-i : goal.invariant-loop-i
+invariant-loop-i l = Along l.first l.second l.entries l.count l.kind l.key l.content l.link
 
-abbrev pub decreases-loop-v : goal.decreases-loop-v
-decreases-loop-v l = l.v
+abbrev pub decreases-loop-i : goal.decreases-loop-i
+decreases-loop-i l = l.link

@@ -1,23 +1,21 @@
--- `block` is the local rule in n windows. The invariant: the windows so far were checked. Assumes nothing.
-use mathlib.Core.Path.{◌≡◌, refl}
-use native.Mathlib.Omega.{arith}
-use borrow.Author.Rules.{rules}
-use Rattle.format.proofs.Tests.{clash}
-use Rattle.utf8.specs.Local.{passes_at}
-use Rattle.utf8.proofs.Ranges.{none_in}
-use Rattle.utf8.proofs.LocalRule.{checked_more}
+-- The windows so far were judged. Assumes nothing.
+use mathlib.Core.Path.{◌∙◌}
+use Rattle.utf8.proofs.LocalRule.{judging, judge_more, judged}
 use Rattle.utf8.proofs.local.block.Goals as goal
 
-pub loop-j-init : goal.loop-j-init
-loop-j-init c = (search rules, ((λ _. none_in _ _), (λ e. clash refl e)))
-
-pub loop-j-preserved : goal.loop-j-preserved
-unfolding passes_at
-loop-j-preserved c = (
-  search rules,
-  checked_more c.args.s.now _ _ _ _
-      (omega arith) c.may_follow-pass.ensures c.loop-j.invariant.1,
+pub loop-p3-init : goal.loop-p3-init
+loop-p3-init c = (
+  rw c.into_iter-p3-iterator.ensures.into_iter_gives c.array_windows-p3-items.ensures.size,
+  rw (c.into_iter-p3-iterator.ensures.into_iter_gives, c.array_windows-p3-items.ensures.rest) (judging c.args.s.now),
 )
 
+pub loop-p3-preserved : goal.loop-p3-preserved
+loop-p3-preserved c =
+    let four = c.loop-p3.invariant.0 in
+    let (size, window) = c.in-Some.ensures.steps in (
+      size ∙ four,
+      judge_more _ _ _ _ _ (rw four at window.0) (rw four at window.1) window.2 c.may_follow-pass.ensures _ c.loop-p3.invariant.1,
+    )
+
 pub returns : goal.returns
-returns c = let h : c.loop-j.j ≡ c.args.n = omega arith in rw h at c.loop-j.invariant.1
+returns c = judged _ _ _ c.loop-p3.invariant.1 (rw c.loop-p3.invariant.0 at c.in-None.ensures.steps.1.0)

@@ -1,10 +1,10 @@
--- `block` is the local rule in n windows. The invariant: the windows so far were checked. Assumes nothing.
-use Prim.Native.Nat.{◌+◌, ◌-◌, ◌≤◌}
-use Rattle.utf8.specs.Local.{Checked}
+-- The windows so far were judged. Assumes nothing.
+use mathlib.Core.Path.{◌≡◌}
+use Rattle.std.specs.Slice.ArrayWindows.{array_windows_parts}
+use Rattle.std.specs.Slice.Iter.{windows_rest, windows_size}
+use Rattle.utf8.proofs.LocalRule.{Judging}
 use Rattle.utf8.proofs.local.block.Given as goal
 
-abbrev pub invariant-loop-j : goal.invariant-loop-j
-invariant-loop-j l = (l.j ≤ l.n) × Checked l.s l.a (l.a + l.j) l.pass
-
-abbrev pub decreases-loop-j : goal.decreases-loop-j
-decreases-loop-j l = l.n - l.j
+abbrev pub invariant-loop-p3 : goal.invariant-loop-p3
+invariant-loop-p3 l = (windows_size (array_windows_parts l.p3-iterator) ≡ 4)
+    × Judging l.s (windows_rest (array_windows_parts l.p3-iterator)) l.pass

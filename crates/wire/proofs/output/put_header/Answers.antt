@@ -2,7 +2,6 @@
 use mathlib.Core.Path.{◌≡◌, sym, ◌∙◌}
 use mathlib.Core.Bool.{Bool, true, false}
 use Prim.Native.Nat.{ℕ, ◌+◌, ◌≤◌, ◌<◌}
-use native.Mathlib.Nat.{le_of_suc-le-suc}
 use native.Mathlib.Omega.{arith}
 use borrow.Author.Tests.{ltb-true, ltb-false}
 use lib.Dec.{ltb}
@@ -22,10 +21,6 @@ inline e t = ltb-true _ _ (sym e ∙ t)
 -- It stands after it.
 long : {n : ℕ} {b : Bool} → b ≡ ltb n (max_inline + 1) → b ≡ false → max_inline + 1 ≤ n
 long e f = ltb-false _ _ (sym e ∙ f)
-
-pub inline_lead-requires : goal.inline_lead-requires
-inline_lead-requires c =
-    (c.requires.0, le_of_suc-le-suc (inline c.is_inline.ensures c.if-is_inline.true))
 
 pub bounds-out-0 : goal.bounds-out-0
 bounds-out-0 c = omega (arith, length-short _ _ (inline c.is_inline.ensures c.if-is_inline.true))
@@ -75,11 +70,6 @@ put_number-requires c = (
 pub overflow_add-result : goal.overflow_add-result
 overflow_add-result c =
     omega (arith, c.put_number.ensures.0, c.width-k.ensures, (width_holds _ c.ranges.p.fits).most)
-
-pub shape_of-out : goal.shape_of-out
-shape_of-out c =
-    (put-long _ _ c.args.out.now c.requires.1 _ (long c.is_inline.ensures c.if-is_inline.false)
-    c.width-k.ensures _ _ c.put_number.ensures.0 c.put_number.ensures.1).long
 
 pub returns : goal.returns
 returns c =
