@@ -6,19 +6,15 @@ ghost use Rattle.envelope.specs.Answers.{bundle_in, length_field, missing_from, 
 
 use crate::{LENGTH_SIZE, OVERHEAD, VERSION};
 use format::{Bundle, Error, Failure, fail};
-
-fn wide(b: u8) -> usize
-    ensures { (result ≡ b) × (result < 256) }
-{
-    b as usize
-}
+use wire::header::number;
 
 // What the first two bytes say: the number of bytes after them.
+#[tactic(auto, unfolding(crate::specs::Answers::length_field))]
 fn length_field(bytes: &[u8]) -> usize
     requires { length_size ≤ length bytes.now }
     ensures { result ≡ length_field bytes.now }
 {
-    wide(bytes[0]) * 256 + wide(bytes[1])
+    number(&bytes[..LENGTH_SIZE]) as usize
 }
 
 // The length of the bundle in an envelope, or why it does not open.
@@ -55,6 +51,7 @@ pub fn open(bytes: &[u8]) -> &[u8]
 }
 
 // How many bytes have to come before opening answers for good: 0 where more bytes change nothing.
+#[tactic(auto, unfolding(crate::specs::Answers::missing_from, format::specs::Choice::pick))]
 pub fn missing(bytes: &[u8]) -> usize
     ensures { result ≡ missing_from bytes.now }
 {
@@ -65,8 +62,5 @@ pub fn missing(bytes: &[u8]) -> usize
     if 1 + Bundle::MAX_BYTES < n {
         return 0;
     }
-    if LENGTH_SIZE + n < bytes.len() {
-        return 0;
-    }
-    LENGTH_SIZE + n - bytes.len()
+    (LENGTH_SIZE + n).saturating_sub(bytes.len())
 }
