@@ -49,14 +49,11 @@ pub fn put_header(out: &mut [u8], code: u8, p: u64) -> usize
     1 + put_number(&mut out[1..], k, p)
 }
 
-// The bytes of another buffer. By a loop, which is compiled into its callers: with `copy_from_slice`, a call, writing names
-// took 1.2 times as long.
+// The bytes of another buffer.
 pub fn copy(out: &mut [u8], from: &[u8]) -> usize
     requires { length from.now ≤ length out.old }
     ensures { Puts from.now result out.old out.new }
 {
-    for (i, b) in from.iter().enumerate() {
-        out[i] = *b;
-    }
+    out[..from.len()].copy_from_slice(from);
     from.len()
 }
