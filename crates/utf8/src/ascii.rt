@@ -37,7 +37,8 @@ pub fn ascii_ends(s: &[u8], k: usize) -> bool
     is_ascii(&s[..k]) & is_ascii(&s[s.len() - k..])
 }
 
-// Is a short text all ASCII? Two reads of a fixed width that meet or overlap take less than a loop.
+// Is a short text all ASCII? Two reads of a fixed width that meet or overlap take less than a loop; each call knows its
+// width, so that it becomes vector code.
 pub fn short_ascii(s: &[u8]) -> bool
     requires { length s.now ≤ max_short }
     ensures { result ≡ true → utf8 s.now ≡ true }

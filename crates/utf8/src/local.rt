@@ -60,7 +60,8 @@ fn block(s: &[u8]) -> bool
 }
 
 // The local rule in the windows from a on, by blocks. The last block ends at the end, and may look at some windows again.
-// One place calls block, so that its code is put into this loop.
+// One place calls block, so that its code is put into this loop: with the rest as a slice, and the last block after the
+// loop, short texts took 1.09 times as long, and ASCII 1.04 times.
 fn blocks(s: &[u8], a: usize) -> bool
     requires { (block_bytes ≤ length s.now) × Passing s.now 0 a }
     ensures { good_from s.now 0 ≡ (result && good_from s.now (length s.now - before)) }

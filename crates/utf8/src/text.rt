@@ -23,5 +23,9 @@ pub fn is_utf8(s: &[u8]) -> bool
 pub fn is_utf8_name(s: &[u8]) -> bool
     ensures { result ≡ utf8 s.now }
 {
-    (16..=32).contains(&s.len()) && ascii_ends(s, 16) || is_utf8(s)
+    let n = s.len();
+    if 16 <= n && n <= 32 && ascii_ends(s, 16) {
+        return true;
+    }
+    is_utf8(s)
 }

@@ -18,7 +18,8 @@ impl Lead {
     pub const MAX_FOLLOWING: usize = Header::MAX_SIZE - 1;
 }
 
-// The kind of row that a code stands for.
+// The kind of row that a code stands for. Kinds and codes are numbers: the C interface has the one in its rows, and the
+// bytes have the other.
 pub fn kind_of(code: u8) -> u8
     requires { code ≤ Code.key }
     ensures { result ≡ code + Kind.bytes }
