@@ -50,8 +50,9 @@ pub fn by_bytes(s: &[u8]) -> bool
 }
 
 // The place at which a text that is not good stops being good; 0 for one that is. ASCII is passed by steps, as the place
-// may be far back. So it is too large to be compiled into the loops of its callers: there writing integers took 1.16
-// times as long (four runs of the bench).
+// may be far back. Not compiled into the loops of its callers: there writing integers took 1.16 times as long, and
+// checking names 1.13 times (runs of the bench).
+#[inline(never)]
 #[tactic(auto, unfolding(format::specs::Utf8::bad_at))]
 pub fn bad_at(s: &[u8]) -> usize
     ensures { result ≡ bad_at s.now }
