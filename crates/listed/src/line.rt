@@ -4,8 +4,7 @@ ghost use Rattle.listed.specs.Text.{row_line, bundle_line, first_line, envelope_
 ghost use Rattle.wire.specs.Output.{Puts};
 
 use ascii::{put_ended, put_labelled};
-use format::Row;
-use reader::Checked;
+use format::{Bundle, Failure, Row};
 
 // A row: its index, kind, number and start.
 pub fn put_row(i: u64, row: Row, out: &mut [u8]) -> usize

@@ -8,8 +8,7 @@ ghost use Rattle.listed.specs.Promises.{Prints, printed_of};
 use crate::line::{put_envelope, put_first, put_row};
 use crate::table::Table;
 use ascii::Decimal;
-use format::{Outcome, Row};
-use reader::Checked;
+use format::{Bundle, Failure, Row};
 
 #[derive(Clone, Copy)]
 pub struct Text;
@@ -29,7 +28,7 @@ impl Text {
 #[derive(Clone, Copy)]
 pub struct Printed {
     pub written: usize,
-    pub outcome: Outcome,
+    pub outcome: Result<(), Failure>,
 }
 
 // How many rows are printed.
@@ -49,11 +48,11 @@ fn answered(answer: Result<Bundle, Failure>, written: usize) -> Printed
     match answer {
         Ok(_) => Printed {
             written,
-            outcome: Outcome::Good,
+            outcome: Ok(()),
         },
         Err(f) => Printed {
             written,
-            outcome: Outcome::Failed(f),
+            outcome: Err(f),
         },
     }
 }
@@ -66,7 +65,7 @@ pub fn put_bundle(k: u64, bundle: &[u8], out: &mut [u8]) -> Printed
     if out.len() < Text::MAX_LEN {
         return Printed {
             written: 0,
-            outcome: Outcome::Good,
+            outcome: Ok(()),
         };
     }
     let t = Table::read(bundle);

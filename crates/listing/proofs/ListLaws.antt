@@ -5,10 +5,8 @@ use Prim.Native.Nat.{ℕ, ◌+◌, ◌≤◌}
 use mathlib.Core.List.{List, []}
 use lib.ListN.{length}
 use Rattle.format.specs.declared.failure.Failure.{Failure}
-use Rattle.format.specs.declared.outcome.Outcome.{Outcome}
-use Rattle.format.specs.declared.outcome.Outcome.TheVariants.{Failed, Good}
 use Rattle.format.specs.Error.{code_of}
-use Rattle.format.specs.Answer.{counted, outcome_of, then}
+use Rattle.format.specs.Answer.{Answer, counted, outcome_of, then}
 use Rattle.format.specs.Envelope.{opening, overhead}
 use Rattle.format.specs.Reading.{counts, lenient}
 use Rattle.format.proofs.Tests.{ltb_no, pick_no}
@@ -27,15 +25,15 @@ module _ (old : List ℕ) (long : max_text ≤ length old) where
   unfolding within
   all_of_it ts = pick_no [] ts (ltb_no long)
 
-  all_told : (o : Outcome) → told_within (length old) o ≡ o
+  all_told : (o : Answer Unit) → told_within (length old) o ≡ o
   unfolding told_within
-  all_told o = pick_no Good o (ltb_no long)
+  all_told o = pick_no (Ok tt) o (ltb_no long)
 
 module _ (k : ℕ) (bs old : List ℕ) (long : max_text ≤ length old) {new : List ℕ} where
   -- the envelope is refused
   pub lists_error : {f : Failure} {x w : ℕ} → Err f ≡ counted (opening bs) → x ≡ code_of f.error
       → Puts (within (length old) (envelope_text k x)) w old new
-      → Makes filter k bs old (record { used = 0; written = w; outcome = Failed f }) new
+      → Makes filter k bs old (record { used = 0; written = w; outcome = Err f }) new
   unfolding printed reading_of step_of size_in outcome_of then
   lists_error e q t =
       let z = refuses bs e in

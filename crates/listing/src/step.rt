@@ -4,7 +4,6 @@ ghost use Rattle.listed.specs.Text.{max_text};
 ghost use Rattle.stream.specs.Run.{Makes};
 ghost use Rattle.listing.specs.Printed.{filter};
 
-use format::{Outcome, Written};
 use listed::{put_bundle, put_envelope_error};
 use stream::Step;
 
@@ -19,7 +18,7 @@ pub fn list(k: u64, bytes: &[u8], out: &mut [u8]) -> Step
             Step {
                 used: 0,
                 written: put_envelope_error(k, error.code(), out),
-                outcome: Outcome::Failed(f),
+                outcome: Err(f),
             }
         }
         Ok(n) => {

@@ -3,7 +3,7 @@ use Rattle.std.specs.Prelude.{◌≡◌, [], ◌∷◌, length, refl}
 use Rattle.format.specs.declared.error.Error.TheVariants.{InvalidEnvelope}
 use Rattle.format.specs.Choice.{pick}
 use Rattle.format.specs.Limits.{max_bytes}
-use Rattle.format.specs.Answer.{fail, failure, outcome_of}
+use Rattle.format.specs.Answer.{fail, failure, outcome_of, then}
 use Rattle.format.specs.Header.{big_endian}
 use Rattle.format.specs.Envelope.{opening}
 use Rattle.envelope.specs.Answers.{bundle_in, size_in}
@@ -31,5 +31,5 @@ Processed =
     ≡ record { count = 2; refusal = First 2 (failure InvalidEnvelope 0); written = 0x25 ∷ [] })
 
 pub examples : Processed
-unfolding pick fail big_endian opening bundle_in size_in outcome_of noted processed_in processed
+unfolding pick fail then big_endian opening bundle_in size_in outcome_of noted processed_in processed
 examples = (refl, refl)

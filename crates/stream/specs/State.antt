@@ -1,8 +1,7 @@
 -- What a program has met so far, and how one step changes it.
-use Rattle.std.specs.Prelude.{◌≡◌, ℕ, ◌+◌, ◌%◌, ◌^◌, ◌≤◌, Bool, true, false, List, length, ◌==◌}
-use Rattle.format.specs.declared.outcome.Outcome.{Outcome}
-use Rattle.format.specs.declared.outcome.Outcome.TheVariants.{Failed, Good}
+use Rattle.std.specs.Prelude.{◌≡◌, ℕ, ◌+◌, ◌%◌, ◌^◌, ◌≤◌, Bool, true, false, List, length, ◌==◌, Err, Ok}
 use Rattle.format.specs.Choice.{pick}
+use Rattle.format.specs.Answer.{Answer}
 use Rattle.envelope.specs.Answers.{missing_from}
 use Rattle.stream.specs.declared.input.Window.{Window}
 use Rattle.stream.specs.declared.state.Refusal.{Refusal}
@@ -55,10 +54,10 @@ moved_on w used =
     (record { start = w.start + used; end = w.end; ended = w.ended })
 
 -- The first refusal: that of envelope k only where there was none before.
-unfoldable pub noted : Refusal → ℕ → Outcome → Refusal
+unfoldable pub noted : Refusal → ℕ → Answer Unit → Refusal
 noted (First j f) k outcome = First j f
-noted None k Good = None
-noted None k (Failed f) = First k f
+noted None k (Ok u) = None
+noted None k (Err f) = First k f
 
 abbrev pub advanced : Stream → Step → Stream
 advanced s step =

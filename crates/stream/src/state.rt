@@ -6,7 +6,7 @@ ghost use Rattle.stream.specs.State.{Finishes, Flushes, Ready, Refills, action_o
 
 use crate::input::{Window, pull};
 use crate::output::put;
-use format::{Failure, Outcome};
+use format::Failure;
 use std::io::Read;
 
 // The first envelope that was refused, by its number, and why.
@@ -64,7 +64,7 @@ impl Stream {
 pub struct Step {
     pub used: usize,
     pub written: usize,
-    pub outcome: Outcome,
+    pub outcome: Result<(), Failure>,
 }
 
 // What is to be done next: read, take the next envelope, or end.
@@ -131,14 +131,14 @@ fn moved_on(window: Window, used: usize) -> Window
 }
 
 // The first refusal, after envelope k.
-fn note(refusal: Refusal, k: u64, outcome: Outcome) -> Refusal
+fn note(refusal: Refusal, k: u64, outcome: Result<(), Failure>) -> Refusal
     ensures { result ≡ noted refusal k outcome }
 {
     match refusal {
         Refusal::First(_, _) => refusal,
         Refusal::None => match outcome {
-            Outcome::Good => refusal,
-            Outcome::Failed(f) => Refusal::First(k, f),
+            Ok(_) => refusal,
+            Err(f) => Refusal::First(k, f),
         },
     }
 }

@@ -6,7 +6,6 @@ use mathlib.Core.List.{List}
 use native.Mathlib.Omega.{arith}
 use lib.ListN.{length, take, length-take}
 use Rattle.format.specs.declared.failure.Failure.{Failure}
-use Rattle.format.specs.declared.outcome.Outcome.TheVariants.{Good}
 use Rattle.format.specs.Limits.{max_bytes}
 use Rattle.format.specs.Answer.{Answer, counted, then, stored}
 use Rattle.format.specs.Written.{Writes}
@@ -38,7 +37,7 @@ module _ (size : ℕ) (bs old : List ℕ) {new : List ℕ} where
       record { step = rw f t; buffer = h.buffer }
 
   pub closed_done : {n : ℕ} → Writes (closing bs (length old)) old (Ok n) new
-      → Closed size bs old (record { used = size; written = n; outcome = Good }) new
+      → Closed size bs old (record { used = size; written = n; outcome = Ok tt }) new
   unfolding step_of
   closed_done h =
       let (f, l) = stored-counted old (closing bs (length old)) h.buffer (sym h.answer) in
