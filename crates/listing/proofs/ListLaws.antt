@@ -11,12 +11,14 @@ use Rattle.format.specs.Envelope.{opening, overhead}
 use Rattle.format.specs.Reading.{counts, lenient}
 use Rattle.format.proofs.Tests.{ltb_no, pick_no}
 use Rattle.envelope.specs.Answers.{bundle_in, size_in}
-use Rattle.envelope.proofs.OpeningLaws.{opens_as, refuses}
+use Rattle.envelope.proofs.OpeningLaws.{opens_as, refuses, size_fits}
 use Rattle.stream.specs.Run.{Makes}
+use Rattle.stream.specs.Laws.{Takes}
 use Rattle.wire.specs.Output.{Puts}
 use Rattle.listed.specs.declared.text.Printed.{Printed}
 use Rattle.listed.specs.Text.{envelope_text, max_text, text, told_within, within}
 use Rattle.listed.specs.Promises.{Prints}
+use Rattle.listed.proofs.Texts.{envelope-short, text-short}
 use Rattle.listing.specs.Printed.{filter, printed, reading_of, step_of}
 
 -- The buffer has space for any text.
@@ -48,3 +50,16 @@ module _ (k : ℕ) (bs old : List ℕ) (long : max_text ≤ length old) {new : L
       let puts = rw (all_of_it old long (text k b)) at t.puts in
       let told = t.outcome ∙ all_told old long (outcome_of (counts lenient b)) in
       record { step = rw (z, puts.0, told, ← l) refl; puts = rw z puts }
+
+-- ---- the filter
+
+-- What a step takes lies in the bytes.
+pub inside : Takes filter
+unfolding step_of
+inside k bs = size_fits bs
+
+-- No more is printed than it says.
+pub short : (k : ℕ) (a : Answer (List ℕ)) → length (filter.output k a) ≤ filter.most
+unfolding printed
+short k (Err f) = envelope-short k (code_of f.error)
+short k (Ok bs) = text-short bs k

@@ -1,2 +1,2 @@
 -- What the proofs of the run cite.
-pub mod Filters
+pub mod Lengths
