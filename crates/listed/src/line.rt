@@ -44,11 +44,10 @@ pub fn put_first(k: u64, answer: Result<Bundle, Failure>, out: &mut [u8]) -> usi
             out,
         ),
         Err(f) => {
-            let error = f.error;
             put_bundle_line(
                 k,
                 b" refused ",
-                error.code() as u64,
+                f.error.code() as u64,
                 b" at ",
                 f.place as u64,
                 out,

@@ -19,7 +19,8 @@ impl Refusal {
     pub const MAX_LEN: usize = Refusal::FRAME.len() + Refusal::LONGEST.len() + 3 * Decimal::MAX_LEN;
 }
 
-// What an error's number means.
+// What an error's number means. By number, and not by `Error`: `put_refusal` promises the words of every number
+// (docs/PROMISES), and an `Error` would ask more of its callers.
 fn put_words(error: u8, out: &mut [u8]) -> usize
     requires { length (words error) ≤ length out.old }
     ensures { Puts (words error) result out.old out.new }

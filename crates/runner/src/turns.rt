@@ -1,6 +1,9 @@
 // The run over an input: envelopes are taken as they come in, and what waits is written before more input is waited for.
 ghost use Rattle.std.specs.Prelude.{◌≡◌, ◌≤◌, length};
 ghost use Rattle.format.specs.Limits.{max_bytes};
+ghost use Rattle.format.specs.Envelope.{max_envelope};
+ghost use Rattle.listed.specs.Text.{max_text};
+ghost use Rattle.runner.specs.Program.{output_capacity};
 ghost use Rattle.stream.specs.Window.{unread};
 ghost use Rattle.stream.specs.State.{Ready};
 ghost use Rattle.stream.specs.Run.{Buffers, Runs, Takes, Turns};
@@ -16,8 +19,15 @@ pub struct Output;
 
 impl Output {
     // The output's buffer: as long as the input's and the longest text, so that what one read brings mostly goes out in
-    // one write. It takes what is made of any envelope.
+    // one write.
     pub const CAPACITY: usize = Stream::CAPACITY + Text::MAX_LEN;
+
+    // That buffer: it takes what is made of any envelope.
+    pub fn buffer() -> [u8; Output::CAPACITY]
+        ensures { (output_capacity ≡ length result) × (max_text ≤ length result) × (max_envelope ≤ length result) }
+    {
+        [0u8; Output::CAPACITY]
+    }
 }
 
 // Takes the next envelope; where the buffer may be too short for what is made of it, writes what waits.
@@ -78,9 +88,9 @@ pub fn run<P: Program, R: Read>(
 ) -> Stream
     ensures { Runs P.filter before result }
 {
-    let mut input = [0u8; Stream::CAPACITY];
+    let mut input = Stream::buffer();
     let mut scratch = [0u8; Bundle::MAX_BYTES];
-    let mut output = [0u8; Output::CAPACITY];
+    let mut output = Output::buffer();
     let mut s = before;
     s.begin();
     // A proved loop has to end, and nothing says that the input does: no run uses up this number of turns.

@@ -1,6 +1,7 @@
 // Where a program stands in its input and its output, and what it has met on the way.
 ghost use Rattle.std.specs.Prelude.{◌≡◌, ◌+◌, ◌^◌, ◌<◌, ◌≤◌, length};
-ghost use Rattle.stream.specs.Window.{Within, unused};
+ghost use Rattle.format.specs.Envelope.{max_envelope};
+ghost use Rattle.stream.specs.Window.{Within, input_capacity, unused};
 ghost use Rattle.stream.specs.State.{Finishes, Flushes, Ready, Refills, action_of, advanced, begun, broken, first};
 
 use crate::input::Window;
@@ -57,8 +58,16 @@ pub struct Labels<'a> {
 impl Stream {
     // What a read has space for beside the longest envelope: 64 KiB.
     const AHEAD: usize = 65536;
-    // An input's buffer: it takes any envelope, so that a read has space as long as one is cut.
+    // An input's buffer.
     pub const CAPACITY: usize = Stream::AHEAD + envelope::MAX_BYTES;
+
+    // That buffer: it takes any envelope, so that a read has space as long as one is cut. `Output::buffer` of `runner` is
+    // no instance of one function with it, since each promises what its own buffer takes (docs/PROMISES).
+    pub fn buffer() -> [u8; Stream::CAPACITY]
+        ensures { (input_capacity ≡ length result) × (max_envelope ≤ length result) }
+    {
+        [0u8; Stream::CAPACITY]
+    }
 
     // Before the first envelope.
     pub fn new() -> Stream
@@ -172,6 +181,3 @@ impl Stream {
         self.done = failed;
     }
 }
-
-// A read has space as long as an envelope is cut.
-const _: () = prove!(envelope::MAX_BYTES <= Stream::CAPACITY);

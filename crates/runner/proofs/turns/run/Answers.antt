@@ -10,7 +10,7 @@ loop-init g c =
 
 pub returns-then-s : goal.returns-then-s
 returns-then-s g c =
-    let sized = long_enough g.P.Program.filter g.met.P.Program.fits in
+    let sized = long_enough g.P.Program.filter g.met.P.Program.fits _ _ c.buffer-input.ensures.1 c.buffer-output.ensures.0 in
     ran c.loop.invariant.going c.args.before _ c.begin.ensures sized (inl (c.if-s.true, refl))
 
 pub loop-preserved : goal.loop-preserved
@@ -23,5 +23,5 @@ loop-preserved g c =
 
 pub returns : goal.returns
 returns g c =
-    let sized = long_enough g.P.Program.filter g.met.P.Program.fits in
+    let sized = long_enough g.P.Program.filter g.met.P.Program.fits _ _ c.buffer-input.ensures.1 c.buffer-output.ensures.0 in
     ran c.loop.invariant.going c.args.before _ c.begin.ensures sized (inr (omega (arith, c.loop-test.false, c.loop.auto.counter-end), c.fail.ensures))
