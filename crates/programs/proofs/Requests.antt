@@ -9,7 +9,7 @@ use mathlib.Core.List.{List, [], ◌∷◌}
 use lib.ListN.{length, get_or}
 use Rattle.format.specs.Choice.{pick}
 use Rattle.format.specs.Names.{same}
-use Rattle.format.proofs.Tests.{clash, eqb_no, eqb_yes, ltb_no, ltb_yes, pick_no, pick_yes}
+use Rattle.format.proofs.Tests.{eqb_no, eqb_yes, ltb_no, ltb_yes, pick_no, pick_yes}
 use Rattle.ascii.specs.Text.{ascii}
 use Rattle.stream.specs.declared.state.Refused.{Refused}
 use Rattle.stream.specs.declared.state.Stream.{Stream}

@@ -1,5 +1,5 @@
 -- A program's run over all its inputs, and its exit status.
-use Rattle.std.specs.Prelude.{◌≡◌, ◌⊎◌, ℕ, suc, ◌-◌, true, false, ◌||◌, ltb, is_some}
+use Rattle.std.specs.Prelude.{◌≡◌, ◌⊎◌, ℕ, suc, ◌-◌, false, ◌||◌, ltb, is_some}
 use Rattle.format.specs.Choice.{pick}
 use Rattle.stream.specs.declared.state.Stream.{Stream}
 use Rattle.stream.specs.State.{broken, first}
