@@ -55,7 +55,7 @@ fn serve<P: Command, R: Read>(rt: &HostRuntime, source: &mut R, subject: &[u8], 
     r
 }
 
-// Why an argument is not in its buffer.
+// Why an argument is not in its buffer. No `From`, since both types are std's.
 fn not_filled(error: FillError) -> Error {
     Error::from_raw_os_error(match error {
         FillError::TooLong => NAME_TOO_LONG,
