@@ -26,22 +26,22 @@ pub enum Request {
 }
 
 // What begins with `-` is no file's name.
+#[tactic(auto, using(crate::proofs::Requests::file_empty, crate::proofs::Requests::file_named, crate::proofs::Requests::help, crate::proofs::Requests::version, crate::proofs::Requests::unknown), unfolding(ascii::specs::Text::ascii))]
 fn judged(word: &[u8]) -> Argument
     ensures { result ≡ argument_of word.now }
 {
-    if word.len() == 0 {
-        return Argument::File;
+    match word {
+        [b'-', ..] => {
+            if same(word, b"--help") {
+                Argument::Help
+            } else if same(word, b"--version") {
+                Argument::Version
+            } else {
+                Argument::Unknown
+            }
+        }
+        _ => Argument::File,
     }
-    if word[0] != b'-' {
-        return Argument::File;
-    }
-    if same(word, b"--help") {
-        return Argument::Help;
-    }
-    if same(word, b"--version") {
-        return Argument::Version;
-    }
-    Argument::Unknown
 }
 
 // Puts argument i at the start of a buffer, or as much of it as the buffer takes.
