@@ -10,6 +10,8 @@ use Rattle.stream.specs.declared.state.Stream.{Stream}
 use Rattle.stream.specs.Run.{Filter}
 use Rattle.stream.specs.Laws.{Takes}
 use Rattle.stream.proofs.Laws.{whole_run}
+use Rattle.runner.specs.Program.{listing_filter, tidy_filter}
+use Rattle.runner.proofs.Filters.{listing_inside, tidy_inside}
 use Rattle.programs.specs.Exit as exit
 use Rattle.programs.specs.Exit.{Served, Serving, ran, status_of, unopened}
 use Rattle.programs.specs.Laws.{Processed, Told, no_input, one_more}
@@ -48,3 +50,11 @@ module _ (p : Filter) (inside : Takes p) where
             let count = serving.all (nothing-stopped s e) (nothing-failed s e) in
             (subst (λ (n : ℕ). Processed p n s) count (all-processed serving.served (nothing-failed s e)), nothing-refused s e);
       }
+
+-- ---- the two programs
+
+pub told_of_listing : (inputs : ℕ) (s : Stream) (serving : Serving listing_filter inputs s) → Told listing_filter inputs s serving
+told_of_listing = told_by_status listing_filter listing_inside
+
+pub told_of_tidy : (inputs : ℕ) (s : Stream) (serving : Serving tidy_filter inputs s) → Told tidy_filter inputs s serving
+told_of_tidy = told_by_status tidy_filter tidy_inside
