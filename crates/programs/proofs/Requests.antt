@@ -53,6 +53,8 @@ module _ (word : List ℕ) (l : 0 < length word) (h : get_or word 0 0 ≡ hyphen
     pub unknown : same word (ascii "--version") ≡ false → argument_of word ≡ Unknown
     unknown e = option word l h ∙ pick_no _ _ no ∙ pick_no _ _ e
 
+pub ruleset by_word = (file_empty, file_named, help, version, unknown)
+
 -- ---- inputs
 
 module _ (p : Filter) where

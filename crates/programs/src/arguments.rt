@@ -26,7 +26,7 @@ pub enum Request {
 }
 
 // What begins with `-` is no file's name.
-#[tactic(auto, using(crate::proofs::Requests::file_empty, crate::proofs::Requests::file_named, crate::proofs::Requests::help, crate::proofs::Requests::version, crate::proofs::Requests::unknown), unfolding(ascii::specs::Text::ascii))]
+#[tactic(auto, using(crate::proofs::Requests::by_word), unfolding(ascii::specs::Text::ascii))]
 fn judged(word: &[u8]) -> Argument
     ensures { result ≡ argument_of word.now }
 {
