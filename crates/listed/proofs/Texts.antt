@@ -10,8 +10,6 @@ use lib.Seq.{drop-cons}
 use Rattle.format.specs.declared.bundle.Bundle.{Bundle}
 use Rattle.format.specs.declared.row.Row.{Row}
 use Rattle.format.specs.Limits.{max_rows}
-use Rattle.format.specs.declared.outcome.Outcome.{Outcome}
-use Rattle.format.specs.declared.outcome.Outcome.TheVariants.{Good}
 use Rattle.format.specs.Error.{code_of}
 use Rattle.format.specs.Answer.{Answer, outcome_of, stored, then}
 use Rattle.format.specs.Reading.{State, counts, counts_of, lenient, reading}
@@ -136,11 +134,11 @@ module _ (out : List ℕ) (l : length out < max_text) where
   unfolding within
   put-none bs = let e = pick_yes [] bs (ltb_yes l) in rw e (refl, refl)
 
-  told_none : (o : Outcome) → Good ≡ told_within (length out) o
+  told_none : (o : Answer Unit) → Ok tt ≡ told_within (length out) o
   unfolding told_within
-  told_none o = sym (pick_yes Good o (ltb_yes l))
+  told_none o = sym (pick_yes (Ok tt) o (ltb_yes l))
 
-  pub prints_none : (k : ℕ) (bs : List ℕ) → Prints k bs out (record { written = 0; outcome = Good }) out
+  pub prints_none : (k : ℕ) (bs : List ℕ) → Prints k bs out (record { written = 0; outcome = Ok tt }) out
   prints_none k bs = record { puts = put-none (text k bs); outcome = told_none (outcome_of (counts lenient bs)) }
 
 module _ (out : List ℕ) (g : max_text ≤ length out) where
@@ -148,9 +146,9 @@ module _ (out : List ℕ) (g : max_text ≤ length out) where
   unfolding within
   put_all {l} {n} bs q = let e = pick_no [] bs (ltb_no g) in subst⁻¹ (λ (w : List ℕ). Puts w n out l) e q
 
-  told_all : (o : Outcome) → o ≡ told_within (length out) o
+  told_all : (o : Answer Unit) → o ≡ told_within (length out) o
   unfolding told_within
-  told_all o = sym (pick_no Good o (ltb_no g))
+  told_all o = sym (pick_no (Ok tt) o (ltb_no g))
 
   pub prints_all : {l : List ℕ} {n : ℕ} (k : ℕ) (bs : List ℕ) (t : Table) → Tabled bs t → Puts (text k bs) n out l
       → Prints k bs out (printed_of n t.answer) l

@@ -1,5 +1,5 @@
 -- The printed case of document 01, a bundle that is refused, an envelope that is refused and how long a first line is, computed.
-use Rattle.std.specs.Prelude.{ℕ, ◌≡◌, refl, length, is_some, is_none, unwrap_or}
+use Rattle.std.specs.Prelude.{ℕ, ◌≡◌, refl, length}
 use mathlib.Core.List.{List, [], ◌∷◌, flatten}
 use Rattle.format.specs.Choice.{pick}
 use Rattle.format.specs.Answer.{fail, first, rule, then, unless}

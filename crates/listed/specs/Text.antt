@@ -3,8 +3,6 @@ use Rattle.std.specs.Prelude.{ℕ, suc, ◌+◌, ◌*◌, ltb, Err, Ok}
 use mathlib.Core.List.{List, [], ◌∷◌, flatten}
 use Rattle.format.specs.declared.bundle.Bundle.{Bundle}
 use Rattle.format.specs.declared.row.Row.{Row}
-use Rattle.format.specs.declared.outcome.Outcome.{Outcome}
-use Rattle.format.specs.declared.outcome.Outcome.TheVariants.{Good}
 use Rattle.format.specs.Choice.{pick}
 use Rattle.format.specs.Error.{code_of}
 use Rattle.format.specs.Limits.{max_rows}
@@ -90,5 +88,5 @@ unfoldable pub within : ℕ → List ℕ → List ℕ
 within capacity bs = pick (ltb capacity max_text) [] bs
 
 -- So for what became of the bundle: else nothing is told.
-unfoldable pub told_within : ℕ → Outcome → Outcome
-told_within capacity outcome = pick (ltb capacity max_text) Good outcome
+unfoldable pub told_within : ℕ → Answer Unit → Answer Unit
+told_within capacity outcome = pick (ltb capacity max_text) (Ok tt) outcome

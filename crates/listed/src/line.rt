@@ -4,8 +4,7 @@ ghost use Rattle.listed.specs.Text.{row_line, bundle_line, first_line, envelope_
 ghost use Rattle.wire.specs.Output.{Puts};
 
 use ascii::{put_ended, put_labelled};
-use format::Row;
-use reader::Checked;
+use format::{Bundle, Failure, Row};
 
 // A row: its index, kind, number and start.
 pub fn put_row(i: u64, row: Row, out: &mut [u8]) -> usize
@@ -45,11 +44,10 @@ pub fn put_first(k: u64, answer: Result<Bundle, Failure>, out: &mut [u8]) -> usi
             out,
         ),
         Err(f) => {
-            let error = f.error;
             put_bundle_line(
                 k,
                 b" refused ",
-                error.code() as u64,
+                f.error.code() as u64,
                 b" at ",
                 f.place as u64,
                 out,

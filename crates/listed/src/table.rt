@@ -1,8 +1,7 @@
 // A bundle read into a table of rows that goes by value.
 ghost use Rattle.listed.specs.Promises.{Tabled};
 
-use format::Row;
-use reader::Checked;
+use format::{Bundle, Failure, Row};
 
 // What reading answers, and the rows; those after the bundle's are blank.
 #[derive(Drop)]

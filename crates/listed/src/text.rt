@@ -1,15 +1,15 @@
 // The text for one envelope, at the start of a buffer.
 ghost use Rattle.std.specs.Prelude.{◌≡◌, length};
+ghost use Rattle.format.specs.Answer.{outcome_of};
 ghost use Rattle.reader.specs.Answers.{rows_in};
 ghost use Rattle.wire.specs.Output.{Puts};
 ghost use Rattle.listed.specs.Text.{envelope_text, within};
-ghost use Rattle.listed.specs.Promises.{Prints, printed_of};
+ghost use Rattle.listed.specs.Promises.{Prints};
 
 use crate::line::{put_envelope, put_first, put_row};
 use crate::table::Table;
 use ascii::Decimal;
-use format::{Outcome, Row};
-use reader::Checked;
+use format::{Bundle, Failure, Row};
 
 #[derive(Clone, Copy)]
 pub struct Text;
@@ -26,36 +26,26 @@ impl Text {
 }
 
 // How many bytes were written, and whether the bundle reads.
-#[derive(Clone, Copy)]
+#[derive(Clone, Copy, Debug, PartialEq, Eq)]
 pub struct Printed {
     pub written: usize,
-    pub outcome: Outcome,
+    pub outcome: Result<(), Failure>,
 }
 
 // How many rows are printed.
+#[tactic(auto, unfolding(reader::specs::Answers::rows_in))]
 fn row_count(answer: Result<Bundle, Failure>) -> usize
     ensures { result ≡ rows_in answer }
 {
-    match answer {
-        Ok(b) => b.rows,
-        Err(_) => 0,
-    }
+    answer.map_or(0, |b| b.rows)
 }
 
-// How many bytes were written, with what reading answered.
-fn answered(answer: Result<Bundle, Failure>, written: usize) -> Printed
-    ensures { result ≡ printed_of written answer }
+// Whether the bundle reads, without its counts.
+#[tactic(auto, unfolding(format::specs::Answer::outcome_of, format::specs::Answer::then))]
+fn outcome(answer: Result<Bundle, Failure>) -> Result<(), Failure>
+    ensures { result ≡ outcome_of answer }
 {
-    match answer {
-        Ok(_) => Printed {
-            written,
-            outcome: Outcome::Good,
-        },
-        Err(f) => Printed {
-            written,
-            outcome: Outcome::Failed(f),
-        },
-    }
+    answer.map(|_| ())
 }
 
 // The text for the bundle of envelope k; nothing is told, and no byte changed, where the buffer is shorter than
@@ -66,22 +56,22 @@ pub fn put_bundle(k: u64, bundle: &[u8], out: &mut [u8]) -> Printed
     if out.len() < Text::MAX_LEN {
         return Printed {
             written: 0,
-            outcome: Outcome::Good,
+            outcome: Ok(()),
         };
     }
     let t = Table::read(bundle);
-    let answer = t.answer;
-    let mut at = put_first(k, answer, out);
-    let n = row_count(answer);
-    let mut i = 0;
-    while i < n {
+    let mut at = put_first(k, t.answer, out);
+    for i in 0..row_count(t.answer) {
         at += put_row(i as u64, t.rows[i], &mut out[at..]);
-        i += 1;
     }
-    answered(answer, at)
+    Printed {
+        written: at,
+        outcome: outcome(t.answer),
+    }
 }
 
-// The text for envelope k where it is refused with a number, and how long it is; 0, and no byte changed, in a buffer that is shorter.
+// The text for envelope k where it is refused with a number, and how long it is; 0, and no byte changed, in a buffer that
+// is shorter. A number, and not an `Error`, which would ask more of callers than docs/PROMISES says.
 pub fn put_envelope_error(k: u64, number: u8, out: &mut [u8]) -> usize
     ensures { Puts (within (length out.old) (envelope_text k number)) result out.old out.new }
 {

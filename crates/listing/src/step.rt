@@ -4,7 +4,6 @@ ghost use Rattle.listed.specs.Text.{max_text};
 ghost use Rattle.stream.specs.Run.{Makes};
 ghost use Rattle.listing.specs.Printed.{filter};
 
-use format::{Outcome, Written};
 use listed::{put_bundle, put_envelope_error};
 use stream::Step;
 
@@ -14,22 +13,17 @@ pub fn list(k: u64, bytes: &[u8], out: &mut [u8]) -> Step
     ensures { Makes filter k bytes.now out.old result out.new }
 {
     match envelope::bundle_len(bytes) {
-        Err(f) => {
-            let error = f.error;
-            Step {
-                used: 0,
-                written: put_envelope_error(k, error.code(), out),
-                outcome: Outcome::Failed(f),
-            }
-        }
+        Err(f) => Step {
+            used: 0,
+            written: put_envelope_error(k, f.error.code(), out),
+            outcome: Err(f),
+        },
         Ok(n) => {
-            let bundle = envelope::open(bytes);
-            let printed = put_bundle(k, bundle, out);
-            let outcome = printed.outcome;
+            let printed = put_bundle(k, envelope::open(bytes), out);
             Step {
                 used: envelope::OVERHEAD + n,
                 written: printed.written,
-                outcome,
+                outcome: printed.outcome,
             }
         }
     }

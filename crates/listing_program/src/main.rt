@@ -1,9 +1,9 @@
-// The program `listing`: what it does and answers is `programs::listing_main`.
+// The program `listing`: what it does and answers is `programs::start`.
 #![tactic(auto)]
 
-use programs::listing_main;
+use programs::{Listing, start};
 use std::process::ExitCode;
 
 fn main(rt: HostRuntime) -> ExitCode {
-    ExitCode::from(listing_main(&rt))
+    ExitCode::from(start::<Listing>(&rt))
 }

@@ -1,5 +1,5 @@
 // Why an envelope is refused, written at the start of a buffer; what is answered is how many bytes were written.
-ghost use Rattle.std.specs.Prelude.{◌≤◌, length};
+ghost use Rattle.std.specs.Prelude.{◌≡◌, ◌≤◌, length};
 ghost use Rattle.wire.specs.Output.{Puts};
 ghost use Rattle.messages.specs.Text.{error_at, max_refusal, meaning, refusal, words};
 
@@ -19,30 +19,25 @@ impl Refusal {
     pub const MAX_LEN: usize = Refusal::FRAME.len() + Refusal::LONGEST.len() + 3 * Decimal::MAX_LEN;
 }
 
-// What an error's number means.
-fn put_words(error: u8, out: &mut [u8]) -> usize
-    requires { length (words error) ≤ length out.old }
-    ensures { Puts (words error) result out.old out.new }
+// What an error's number means. By number, and not by `Error`: `put_refusal` promises the words of every number
+// (docs/PROMISES), and an `Error` would ask more of its callers.
+#[tactic(auto, unfolding(crate::specs::Text::words, crate::specs::Text::beside, format::specs::Choice::pick, ascii::specs::Text::ascii))]
+fn words(error: u8) -> &'static [u8]
+    ensures { result.now ≡ words error }
 {
     match error {
-        1 => copy(out, b"the bundle is over 16384 bytes"),
-        2 => copy(
-            out,
-            b"an item or part of it is due, and the bytes have ended",
-        ),
-        3 => copy(out, b"a string, symbol or key is not UTF-8"),
-        4 => copy(out, b"a reference to an entry not yet made"),
-        5 => copy(out, b"a key straight after a key"),
-        6 => copy(out, b"a container inside 32 open ones"),
-        7 => copy(out, b"more than 1024 rows"),
-        8 => copy(out, b"more than 256 entries"),
-        10 => copy(out, b"the canonical encoding is over 16384 bytes"),
-        12 => copy(
-            out,
-            b"the length of the envelope is bad, or bytes are missing",
-        ),
-        13 => copy(out, b"the version of the envelope is not 1"),
-        _ => copy(out, b"an error of another kind"),
+        1 => b"the bundle is over 16384 bytes",
+        2 => b"an item or part of it is due, and the bytes have ended",
+        3 => b"a string, symbol or key is not UTF-8",
+        4 => b"a reference to an entry not yet made",
+        5 => b"a key straight after a key",
+        6 => b"a container inside 32 open ones",
+        7 => b"more than 1024 rows",
+        8 => b"more than 256 entries",
+        10 => b"the canonical encoding is over 16384 bytes",
+        12 => b"the length of the envelope is bad, or bytes are missing",
+        13 => b"the version of the envelope is not 1",
+        _ => b"an error of another kind",
     }
 }
 
@@ -61,7 +56,7 @@ fn put_meaning(error: u8, out: &mut [u8]) -> usize
     ensures { Puts (meaning error) result out.old out.new }
 {
     let a = copy(out, b": ");
-    let b = a + put_words(error, &mut out[a..]);
+    let b = a + copy(&mut out[a..], words(error));
     out[b] = b'\n';
     b + 1
 }

@@ -1,4 +1,5 @@
 -- What one argument asks for, case by case, and inputs one after the other. Assumes nothing.
+use Rattle.std.specs.Prelude.{Some}
 use mathlib.Core.Path.{◌≡◌, refl, sym, ap, subst, ◌∙◌}
 use mathlib.Core.Logic.{◌≢◌}
 use mathlib.Core.Bool.{true, false}
@@ -8,16 +9,15 @@ use mathlib.Core.List.{List, [], ◌∷◌}
 use lib.ListN.{length, get_or}
 use Rattle.format.specs.Choice.{pick}
 use Rattle.format.specs.Names.{same}
-use Rattle.format.proofs.Tests.{clash, eqb_no, eqb_yes, ltb_no, ltb_yes, pick_no, pick_yes}
+use Rattle.format.proofs.Tests.{eqb_no, eqb_yes, ltb_no, ltb_yes, pick_no, pick_yes}
 use Rattle.ascii.specs.Text.{ascii}
-use Rattle.format.specs.declared.failure.Failure.{Failure}
-use Rattle.stream.specs.declared.state.Refusal.TheVariants.{First, None}
+use Rattle.stream.specs.declared.state.Refused.{Refused}
 use Rattle.stream.specs.declared.state.Stream.{Stream}
 use Rattle.stream.specs.State.{first}
 use Rattle.stream.specs.Run.{Filter, Runs}
 use Rattle.programs.specs.declared.arguments.Argument.TheVariants.{File, Help, Version, Unknown}
 use Rattle.programs.specs.Arguments.{argument_of}
-use Rattle.programs.specs.Exit.{Served, Serves, Serving, inputs_of, is_refusal, no_input, one_more, ran, status_of}
+use Rattle.programs.specs.Exit.{Served, Serves, Serving, inputs_of, no_input, one_more, ran, status_of}
 
 -- ---- one argument
 
@@ -53,6 +53,8 @@ module _ (word : List ℕ) (l : 0 < length word) (h : get_or word 0 0 ≡ hyphen
     pub unknown : same word (ascii "--version") ≡ false → argument_of word ≡ Unknown
     unknown e = option word l h ∙ pick_no _ _ no ∙ pick_no _ _ e
 
+pub ruleset by_word = (file_empty, file_named, help, version, unknown)
+
 -- ---- inputs
 
 module _ (p : Filter) where
@@ -67,13 +69,6 @@ module _ (p : Filter) where
       }
 
   module _ (i arguments : ℕ) (s : Stream) (h : Served p (i - 1) s) where
-    -- the run ended before the last file
-    pub served-stopped : s.stopped ≡ true → Serving p (inputs_of arguments) s
-    served-stopped e = record { count = i - 1; served = h; all = λ no _. clash e no }
-
-    pub served-failed : s.failed ≡ true → Serving p (inputs_of arguments) s
-    served-failed e = record { count = i - 1; served = h; all = λ _ no. clash e no }
-
     -- one file more
     pub served-more : 1 ≤ i → (r : Stream) → s.stopped ≡ false → s.failed ≡ false → Serves p s r → Served p (i + 1 - 1) r
     served-more l r a b t = let e : suc (i - 1) ≡ i + 1 - 1 = omega arith in subst (λ (n : ℕ). Served p n r) e (one_more h a b t)
@@ -95,10 +90,6 @@ module _ (s : Stream) where
     status_stopped e = pick_no _ _ fine ∙ pick_yes _ _ (rw e)
 
     module _ (going : s.stopped ≡ false) where
-      pub status_refused : {k : ℕ} {f : Failure} → s.refusal ≡ First k f → status_of s ≡ 1
-      unfolding status_of is_refusal
+      pub status_refused : {r : Refused} → s.refusal ≡ Some r → status_of s ≡ 1
+      unfolding status_of
       status_refused e = pick_no _ _ fine ∙ pick_yes _ _ (rw (going, e))
-
-      pub status_good : s.refusal ≡ None → status_of s ≡ 0
-      unfolding status_of is_refusal
-      status_good e = pick_no _ _ fine ∙ pick_no _ _ (rw (going, e))

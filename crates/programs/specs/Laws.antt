@@ -1,12 +1,9 @@
 -- What the exit status tells of a run over all inputs. proofs/Laws proves it.
-use Rattle.std.specs.Prelude.{◌≡◌, ℕ, suc, false, []}
-use Rattle.stream.specs.declared.state.Refusal.TheVariants.{None}
+use Rattle.std.specs.Prelude.{◌≡◌, ℕ, suc, false, [], None}
 use Rattle.stream.specs.declared.state.Stream.{Stream}
 use Rattle.stream.specs.State.{first}
 use Rattle.stream.specs.Run.{Filter, Runs}
 use Rattle.stream.specs.Whole.{processed, tally}
-use Rattle.runner.specs.declared.program.Program.{Program}
-use Rattle.runner.specs.Program.{filter_of}
 use Rattle.programs.specs.Exit.{Serving, status_of}
 
 -- So many inputs, from the first envelope on. For each was handed on just what the filter makes of all that was read of it, in one piece,
@@ -16,9 +13,9 @@ pub data Processed (p : Filter) : ℕ → Stream → Type 0 where
   one_more : {n : ℕ} {s r : Stream} → Processed p n s → (run : Runs p s r)
       → tally r run.last.sent ≡ processed p (tally s []) run.last.came → Processed p (suc n) r
 
--- Of a program that has served so many inputs, `s` being its state at last.
-pub record Told (p : Program) (inputs : ℕ) (s : Stream) (serving : Serving (filter_of p) inputs s) : Type 0 where
+-- Of a filter that has served so many inputs, `s` being its state at last.
+pub record Told (p : Filter) (inputs : ℕ) (s : Stream) (serving : Serving p inputs s) : Type 0 where
   -- Where nothing failed, each input that was served was processed whole.
-  pub whole : s.failed ≡ false → Processed (filter_of p) serving.count s
+  pub whole : s.failed ≡ false → Processed p serving.count s
   -- Exit status 0: so was every input, and no envelope was refused.
-  pub good : status_of s ≡ 0 → Processed (filter_of p) inputs s × (s.refusal ≡ None)
+  pub good : status_of s ≡ 0 → Processed p inputs s × (s.refusal ≡ None)

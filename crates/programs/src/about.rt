@@ -1,46 +1,51 @@
 // What the programs print of themselves.
 ghost use Rattle.std.specs.Prelude.{◌≤◌, length};
-ghost use Rattle.programs.specs.Exit.{Prints, max_name};
+ghost use Rattle.programs.specs.Exit.{Prints};
+ghost use Rattle.programs.specs.Lines.{max_name};
 
-use crate::sources::Line;
-use messages::put_label;
-use runner::Program;
+use crate::line::Line;
+use runner::{Listing, Program, Tidy};
 use stream::put;
 
-// Prints a text on standard output.
-fn print(rt: &HostRuntime, name: &[u8], text: &[u8]) -> u8
-    requires { length name.now ≤ max_name }
-    ensures { Prints result }
-{
-    let mut line = Line::new();
-    let n = put_label(name, b"standard output", &mut line);
-    if put(rt, text, &line[..n]) {
-        return 0;
-    }
-    2
+// A program, with what it says of itself.
+pub trait Command: Program {
+    // Its name, which messages begin with.
+    fn name() -> &'static [u8]
+        ensures { length result.now ≤ max_name };
+
+    fn help() -> &'static [u8];
+
+    fn version() -> &'static [u8];
 }
 
-pub fn print_help(rt: &HostRuntime, program: Program, name: &[u8]) -> u8
-    requires { length name.now ≤ max_name }
-    ensures { Prints result }
-{
-    match program {
-        Program::Listing => print(
-            rt,
-            name,
-            b"usage: listing [FILE]...
+impl Command for Listing {
+    fn name() -> &'static [u8] {
+        b"listing"
+    }
+
+    fn help() -> &'static [u8] {
+        b"usage: listing [FILE]...
 Prints the rows of the nachricht messages in each FILE, or in standard input if none is named.
 
   --help     prints this
   --version  prints the version
 
 Exit status: 0 if every message is good, 1 if one is refused, 2 if an argument is wrong or reading or writing fails.
-",
-        ),
-        Program::Tidy => print(
-            rt,
-            name,
-            b"usage: tidy [FILE]...
+"
+    }
+
+    fn version() -> &'static [u8] {
+        b"listing 0.1.0\n"
+    }
+}
+
+impl Command for Tidy {
+    fn name() -> &'static [u8] {
+        b"tidy"
+    }
+
+    fn help() -> &'static [u8] {
+        b"usage: tidy [FILE]...
 Copies the nachricht messages of each FILE, or of standard input if none is named, to standard output, each in its
 canonical encoding. It ends at the first that is refused.
 
@@ -48,17 +53,20 @@ canonical encoding. It ends at the first that is refused.
   --version  prints the version
 
 Exit status: 0 if every message is good, 1 if one is refused, 2 if an argument is wrong or reading or writing fails.
-",
-        ),
+"
+    }
+
+    fn version() -> &'static [u8] {
+        b"tidy 0.1.0\n"
     }
 }
 
-pub fn print_version(rt: &HostRuntime, program: Program, name: &[u8]) -> u8
-    requires { length name.now ≤ max_name }
+// Prints a text on standard output.
+pub fn print<P: Command>(rt: &HostRuntime, text: &[u8]) -> u8
     ensures { Prints result }
 {
-    match program {
-        Program::Listing => print(rt, name, b"listing 0.1.0\n"),
-        Program::Tidy => print(rt, name, b"tidy 0.1.0\n"),
+    match put(rt, text, Line::label(P::name(), b"standard output").text()) {
+        Ok(()) => 0,
+        Err(_) => 2,
     }
 }

@@ -8,7 +8,7 @@ use std::rt::Env;
 use wire::bytes::same;
 
 // One argument: the name of a file, a request for a text, or an option that there is not.
-#[derive(Clone, Copy)]
+#[derive(Clone, Copy, Debug, PartialEq, Eq)]
 pub enum Argument {
     File,
     Help,
@@ -17,7 +17,7 @@ pub enum Argument {
 }
 
 // All of them: a run, a text, or the first that is an option that there is not.
-#[derive(Clone, Copy)]
+#[derive(Clone, Copy, Debug, PartialEq, Eq)]
 pub enum Request {
     Run,
     Help,
@@ -26,22 +26,22 @@ pub enum Request {
 }
 
 // What begins with `-` is no file's name.
+#[tactic(auto, using(crate::proofs::Requests::by_word), unfolding(ascii::specs::Text::ascii))]
 fn judged(word: &[u8]) -> Argument
     ensures { result ≡ argument_of word.now }
 {
-    if word.len() == 0 {
-        return Argument::File;
+    match word {
+        [b'-', ..] => {
+            if same(word, b"--help") {
+                Argument::Help
+            } else if same(word, b"--version") {
+                Argument::Version
+            } else {
+                Argument::Unknown
+            }
+        }
+        _ => Argument::File,
     }
-    if word[0] != b'-' {
-        return Argument::File;
-    }
-    if same(word, b"--help") {
-        return Argument::Help;
-    }
-    if same(word, b"--version") {
-        return Argument::Version;
-    }
-    Argument::Unknown
 }
 
 // Puts argument i at the start of a buffer, or as much of it as the buffer takes.
@@ -58,37 +58,24 @@ pub fn put_argument(rt: &HostRuntime, i: usize, out: &mut [u8]) -> usize
 
 // How many arguments there are, the program's own name among them: they end at the first that is not there.
 pub fn count(rt: &HostRuntime) -> usize {
-    let mut n = 0;
-    while n < usize::MAX {
-        if let Err(FillError::NotPresent) = rt.arg(n, &mut []) {
-            return n;
-        }
-        n += 1;
-    }
-    n
+    (0..usize::MAX)
+        .find(|n| matches!(rt.arg(*n, &mut []), Err(FillError::NotPresent)))
+        .unwrap_or(usize::MAX)
 }
 
 // The first of so many arguments that is no file's name decides. Number 0 is the program's own name.
 pub fn requested(rt: &HostRuntime, count: usize) -> Request
     ensures { Asks count result }
 {
-    let mut i = 1;
-    while i < count {
-        let mut word = Path::buffer();
+    for i in 1..count {
+        let mut word = [0u8; Path::MAX_LEN];
         let n = put_argument(rt, i, &mut word);
         match judged(&word[..n]) {
             Argument::File => {}
-            Argument::Help => {
-                return Request::Help;
-            }
-            Argument::Version => {
-                return Request::Version;
-            }
-            Argument::Unknown => {
-                return Request::Unknown(i);
-            }
+            Argument::Help => return Request::Help,
+            Argument::Version => return Request::Version,
+            Argument::Unknown => return Request::Unknown(i),
         }
-        i += 1;
     }
     Request::Run
 }

@@ -4,6 +4,9 @@
 mod about;
 mod arguments;
 mod entry;
+mod line;
 mod sources;
 
-pub use entry::{listing_main, tidy_main};
+pub use about::Command;
+pub use entry::start;
+pub use runner::{Listing, Tidy};

@@ -1,2 +1,3 @@
--- What the proofs of the run cite.
+-- What the proofs of the run and of the programs cite.
 pub mod Filters
+pub mod Lengths

@@ -4,5 +4,5 @@
 mod program;
 mod turns;
 
-pub use program::Program;
+pub use program::{Listing, Program, Tidy};
 pub use turns::run;

@@ -1,5 +1,5 @@
 -- An envelope taken, and turns taken one after the other: what a program's own functions are proved by. Assumes nothing.
-use Rattle.std.proofs.Common.{◌≡◌, ℕ, suc, ◌+◌, ◌-◌, ◌^◌, ◌<◌, ◌≤◌, Bool, false, List, [], ◌++◌, length, take, drop, sym, refl, ap, ◌∙◌, subst, append_assoc, arith, length-append, length-take-le, take_at}
+use Rattle.std.proofs.Common.{◌≡◌, ℕ, suc, ◌+◌, ◌-◌, ◌<◌, ◌≤◌, Bool, false, List, [], ◌++◌, length, take, drop, sym, refl, ap, ◌∙◌, subst, append_assoc, arith, length-append, length-take-le, take_at}
 use borrow.Rule.Slice.PartMut.{put_mid}
 use Rattle.format.specs.Answer.{Answer}
 use Rattle.format.specs.Envelope.{max_envelope, opening}
@@ -111,45 +111,39 @@ flushed p s r bs output f l =
 abbrev opened : Stream → List ℕ → List ℕ → Snapshot
 opened s input output = record { stream = s; input = input; output = output; came = []; sent = [] }
 
--- After all but so many turns of a run that began with `s₀` and these buffers: its state, and its buffers now.
-pub record Going (p : Filter) (s₀ : Stream) (input₀ output₀ : List ℕ) (s : Stream) (input output : List ℕ) (left : ℕ) : Type 0 where
+-- After so many turns of a run that began with `s₀` and these buffers: its state, and its buffers now.
+pub record Going (p : Filter) (s₀ : Stream) (input₀ output₀ : List ℕ) (s : Stream) (input output : List ℕ) (turns : ℕ) : Type 0 where
   pub came : List ℕ
   pub sent : List ℕ
-  pub fewer : left ≤ 2 ^ 64 - 1
-  pub turned : Turned p ((2 ^ 64 - 1) - left) (opened s₀ input₀ output₀)
+  pub turned : Turned p turns (opened s₀ input₀ output₀)
       (record { stream = s; input = input; output = output; came = came; sent = sent })
 
-pub not_yet : (p : Filter) (s : Stream) (input output : List ℕ) → Going p s input output s input output (2 ^ 64 - 1)
-not_yet p s input output = record { came = []; sent = []; fewer = omega arith; turned = no_turn }
+pub not_yet : (p : Filter) (s : Stream) (input output : List ℕ) → Going p s input output s input output 0
+not_yet p s input output = record { came = []; sent = []; turned = no_turn }
 
-module _ {p : Filter} {s₀ s : Stream} {input₀ output₀ input output : List ℕ} {left : ℕ}
-    (g : Going p s₀ input₀ output₀ s input output left) where
-  pub goes_on_with : (r : Stream) (input' output' : List ℕ) → s.done ≡ false → 0 < left → Turns p s input output r input' output'
-      → Going p s₀ input₀ output₀ r input' output' (left - 1)
-  goes_on_with r input' output' going some turns =
+module _ {p : Filter} {s₀ s : Stream} {input₀ output₀ input output : List ℕ} {turns : ℕ}
+    (g : Going p s₀ input₀ output₀ s input output turns) where
+  pub goes_on_with : (r : Stream) (input' output' : List ℕ) → s.done ≡ false → Turns p s input output r input' output'
+      → Going p s₀ input₀ output₀ r input' output' (turns + 1)
+  goes_on_with r input' output' going turned =
       let action = action_of s input in
       let came = g.came ++ came_in action s r input' in
       let sent = g.sent ++ sent_in p action s output in
-      let e : suc ((2 ^ 64 - 1) - left) ≡ (2 ^ 64 - 1) - (left - 1) = omega (arith, g.fewer, some) in
+      let e : suc turns ≡ turns + 1 = omega arith in
       let y : Snapshot = record { stream = r; input = input'; output = output'; came = came; sent = sent } in
-      let turn : Turned p (suc ((2 ^ 64 - 1) - left)) (opened s₀ input₀ output₀) y =
-      one_more g.turned (record { going = going; turns = turns; reads = refl; writes = refl }) in
-      record {
-        came = came;
-        sent = sent;
-        fewer = omega (arith, g.fewer);
-        turned = subst (λ (k : ℕ). Turned p k (opened s₀ input₀ output₀) y) e turn;
-      }
+      let turn : Turned p (suc turns) (opened s₀ input₀ output₀) y =
+      one_more g.turned (record { going = going; turns = turned; reads = refl; writes = refl }) in
+      record { came = came; sent = sent; turned = subst (λ (k : ℕ). Turned p k (opened s₀ input₀ output₀) y) e turn }
 
-  pub ran : (before r : Stream) → s₀ ≡ begun before → Buffers p input₀ output₀ → Ends ((2 ^ 64 - 1) - left) s r → Runs p before r
+  pub ran : (before r : Stream) → s₀ ≡ begun before → Buffers p input₀ output₀ → Ends turns s r → Runs p before r
   ran before r e sized ends =
       let last : Snapshot = record { stream = s; input = input; output = output; came = g.came; sent = g.sent } in
       record {
-        count = (2 ^ 64 - 1) - left;
+        count = turns;
         input = input₀;
         output = output₀;
         last = last;
         sized = sized;
-        turned = subst (λ (x : Stream). Turned p ((2 ^ 64 - 1) - left) (opened x input₀ output₀) last) e g.turned;
+        turned = subst (λ (x : Stream). Turned p turns (opened x input₀ output₀) last) e g.turned;
         ends = ends;
       }

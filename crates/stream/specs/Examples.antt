@@ -1,13 +1,12 @@
 -- What a small filter makes of two inputs, computed.
-use Rattle.std.specs.Prelude.{◌≡◌, [], ◌∷◌, length, refl}
+use Rattle.std.specs.Prelude.{◌≡◌, [], ◌∷◌, length, refl, None, Some}
 use Rattle.format.specs.declared.error.Error.TheVariants.{InvalidEnvelope}
 use Rattle.format.specs.Choice.{pick}
 use Rattle.format.specs.Limits.{max_bytes}
-use Rattle.format.specs.Answer.{fail, failure, outcome_of}
+use Rattle.format.specs.Answer.{fail, failure, outcome_of, then}
 use Rattle.format.specs.Header.{big_endian}
 use Rattle.format.specs.Envelope.{opening}
 use Rattle.envelope.specs.Answers.{bundle_in, size_in}
-use Rattle.stream.specs.declared.state.Refusal.TheVariants.{First, None}
 use Rattle.stream.specs.State.{first, noted}
 use Rattle.stream.specs.Run.{Filter}
 use Rattle.stream.specs.Whole.{processed, processed_in, tally}
@@ -28,8 +27,8 @@ Processed =
     ≡ record { count = 2; refusal = None; written = 0x25 ∷ 0x23 ∷ [] })
     -- a length of 0 after the first: the envelope behind it is not looked at
     × (processed bundles (tally first []) (0 ∷ 2 ∷ 1 ∷ 0x25 ∷ 0 ∷ 0 ∷ 0 ∷ 2 ∷ 1 ∷ 0x23 ∷ [])
-    ≡ record { count = 2; refusal = First 2 (failure InvalidEnvelope 0); written = 0x25 ∷ [] })
+    ≡ record { count = 2; refusal = Some (record { envelope = 2; failure = failure InvalidEnvelope 0 }); written = 0x25 ∷ [] })
 
 pub examples : Processed
-unfolding pick fail big_endian opening bundle_in size_in outcome_of noted processed_in processed
+unfolding pick fail then big_endian opening bundle_in size_in outcome_of noted processed_in processed
 examples = (refl, refl)

@@ -1,12 +1,10 @@
 -- What a program has met so far, and how one step changes it.
-use Rattle.std.specs.Prelude.{◌≡◌, ℕ, ◌+◌, ◌%◌, ◌^◌, ◌≤◌, Bool, true, false, List, length, ◌==◌}
-use Rattle.format.specs.declared.outcome.Outcome.{Outcome}
-use Rattle.format.specs.declared.outcome.Outcome.TheVariants.{Failed, Good}
+use Rattle.std.specs.Prelude.{◌≡◌, ℕ, ◌+◌, ◌%◌, ◌^◌, ◌≤◌, Bool, true, false, List, length, ◌==◌, Option, None, Some, Err, Ok}
 use Rattle.format.specs.Choice.{pick}
+use Rattle.format.specs.Answer.{Answer}
 use Rattle.envelope.specs.Answers.{missing_from}
 use Rattle.stream.specs.declared.input.Window.{Window}
-use Rattle.stream.specs.declared.state.Refusal.{Refusal}
-use Rattle.stream.specs.declared.state.Refusal.TheVariants.{First, None}
+use Rattle.stream.specs.declared.state.Refused.{Refused}
 use Rattle.stream.specs.declared.state.Stream.{Stream}
 use Rattle.stream.specs.declared.state.Step.{Step}
 use Rattle.stream.specs.declared.state.Action.{Action}
@@ -55,10 +53,10 @@ moved_on w used =
     (record { start = w.start + used; end = w.end; ended = w.ended })
 
 -- The first refusal: that of envelope k only where there was none before.
-unfoldable pub noted : Refusal → ℕ → Outcome → Refusal
-noted (First j f) k outcome = First j f
-noted None k Good = None
-noted None k (Failed f) = First k f
+unfoldable pub noted : Option Refused → ℕ → Answer Unit → Option Refused
+noted (Some r) k outcome = Some r
+noted None k (Ok u) = None
+noted None k (Err f) = Some (record { envelope = k; failure = f })
 
 abbrev pub advanced : Stream → Step → Stream
 advanced s step =

@@ -1,9 +1,9 @@
 -- What a filter makes of a whole input, envelope by envelope.
-use Rattle.std.specs.Prelude.{ℕ, zero, suc, List, [], ◌∷◌, ◌++◌, length, drop, ◌==◌}
+use Rattle.std.specs.Prelude.{ℕ, zero, suc, List, [], ◌∷◌, ◌++◌, length, drop, ◌==◌, Option}
 use Rattle.format.specs.Choice.{pick}
 use Rattle.format.specs.Answer.{Answer}
 use Rattle.format.specs.Envelope.{opening}
-use Rattle.stream.specs.declared.state.Refusal.{Refusal}
+use Rattle.stream.specs.declared.state.Refused.{Refused}
 use Rattle.stream.specs.declared.state.Stream.{Stream}
 use Rattle.stream.specs.State.{noted, numbered}
 use Rattle.stream.specs.Run.{Filter}
@@ -11,7 +11,7 @@ use Rattle.stream.specs.Run.{Filter}
 -- How many envelopes were taken, the first that was refused, and all that was written.
 pub record Tally : Type 0 where
   pub count : ℕ
-  pub refusal : Refusal
+  pub refusal : Option Refused
   pub written : List ℕ
 
 -- One envelope more, by what opening it answers.

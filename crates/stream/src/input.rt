@@ -1,12 +1,13 @@
 // An input through a buffer: the bytes that are not used yet stand between start and end.
-ghost use Rattle.std.specs.Prelude.{◌≡◌, ◌-◌, ◌<◌, false, length, take};
+ghost use Rattle.std.specs.Prelude.{◌≡◌, ◌-◌, ◌+◌, ◌<◌, ◌≤◌, length, take};
+ghost use Rattle.stream.specs.State.{moved_on};
 ghost use Rattle.stream.specs.Window.{Pulls, Within, unread, unused};
 
-use crate::failure::has_failed;
+use crate::failure::{Failed, has_failed};
 use std::io::Read;
 
-// Ended: there is no more input.
-#[derive(Clone, Copy)]
+// Ended: there is no more input. Nothing is read yet of the default.
+#[derive(Clone, Copy, Debug, PartialEq, Eq, Default)]
 pub struct Window {
     pub start: usize,
     pub end: usize,
@@ -14,23 +15,66 @@ pub struct Window {
 }
 
 impl Window {
-    // Nothing is read yet.
-    pub fn new() -> Window
-        ensures { result ≡ record { start = 0; end = 0; ended = false } }
+    // The unused bytes.
+    pub fn unread(self, buffer: &[u8]) -> &[u8]
+        requires { Within self (length buffer.now) }
+        ensures { result.now ≡ unread self buffer.now }
     {
-        Window {
-            start: 0,
-            end: 0,
-            ended: false,
+        &buffer[self.start..self.end]
+    }
+
+    // The window behind an envelope; behind one that stops the run there is no more input.
+    #[tactic(auto, using(crate::proofs::StateLaws::stops, crate::proofs::StateLaws::goes_on))]
+    pub fn moved_on(self, used: usize) -> Window
+        requires { self.start + used ≤ self.end }
+        ensures { result ≡ moved_on self used }
+    {
+        if used == 0 {
+            Window {
+                start: self.end,
+                end: self.end,
+                ended: true,
+            }
+        } else {
+            Window {
+                start: self.start + used,
+                ..self
+            }
         }
     }
-}
 
-// The window after a read, and whether that failed.
-#[derive(Clone, Copy)]
-pub struct Pulled {
-    pub window: Window,
-    pub failed: bool,
+    // Reads once, behind the unused bytes, which stay; there is space for one more, so that a read of nothing is the
+    // input's end. A read that a signal interrupts brings nothing; any other error is said on standard error.
+    pub fn pull<R: Read>(
+        &mut self,
+        rt: &HostRuntime,
+        source: &mut R,
+        buffer: &mut [u8],
+        what: &[u8],
+    ) -> Result<(), Failed>
+        requires { Within self.old (length buffer.old) × (unused self.old < length buffer.old) }
+        ensures { Pulls self.old buffer.old self.new buffer.new }
+    {
+        let end = compact(buffer, *self);
+        match source.read(&mut buffer[end..]) {
+            Ok(n) => {
+                *self = Window {
+                    start: 0,
+                    end: end + n,
+                    ended: n == 0,
+                };
+                Ok(())
+            }
+            Err(error) => {
+                *self = Window {
+                    start: 0,
+                    end,
+                    ended: false,
+                };
+                has_failed(rt, what, &error)
+            }
+        }
+    }
 }
 
 // Moves the unused bytes to the front, and answers how many there are.
@@ -38,45 +82,6 @@ fn compact(buffer: &mut [u8], w: Window) -> usize
     requires { Within w (length buffer.old) }
     ensures { (result ≡ unused w) × (take result buffer.new ≡ unread w buffer.old) }
 {
-    let start = w.start;
-    let n = w.end - start;
-    let mut i = 0;
-    while i < n {
-        buffer[i] = buffer[start + i];
-        i += 1;
-    }
-    n
-}
-
-// Reads once, behind the unused bytes, which stay; there is space for one more, so that a read of nothing is the
-// input's end. A read that a signal interrupts brings nothing; any other error is said on standard error.
-pub fn pull<R: Read>(
-    rt: &HostRuntime,
-    source: &mut R,
-    buffer: &mut [u8],
-    w: Window,
-    what: &[u8],
-) -> Pulled
-    requires { Within w (length buffer.old) × (unused w < length buffer.old) }
-    ensures { Pulls w buffer.old result.window buffer.new }
-{
-    let end = compact(buffer, w);
-    match source.read(&mut buffer[end..]) {
-        Ok(n) => Pulled {
-            window: Window {
-                start: 0,
-                end: end + n,
-                ended: n == 0,
-            },
-            failed: false,
-        },
-        Err(error) => Pulled {
-            window: Window {
-                start: 0,
-                end,
-                ended: false,
-            },
-            failed: has_failed(rt, what, &error),
-        },
-    }
+    buffer.copy_within(w.start..w.end, 0);
+    w.end - w.start
 }

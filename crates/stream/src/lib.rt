@@ -6,7 +6,7 @@ mod input;
 mod output;
 mod state;
 
-pub use failure::say;
+pub use failure::{Failed, say};
 pub use input::Window;
 pub use output::put;
-pub use state::{Action, Refusal, Step, Stream, advance, begin, fail, finish, flush, next, refill};
+pub use state::{Action, Labels, Refused, Step, Stream};

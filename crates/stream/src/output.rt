@@ -1,37 +1,33 @@
 // Standard output, written whole.
-ghost use Rattle.std.specs.Prelude.{◌≡◌, true, length};
+ghost use Rattle.std.specs.Prelude.{◌≡◌, Ok, length};
 
-use crate::failure::{has_failed, say};
+use crate::failure::{Failed, has_failed, say};
 use std::io::{Error, ErrorKind, Print};
 
-// Writes all of the bytes and answers true. An error is said on standard error, and false answered; a write that a
-// signal interrupts is tried again. That nobody reads any more is not said, as is usual.
-pub fn put(rt: &HostRuntime, bytes: &[u8], what: &[u8]) -> bool
-    ensures { length bytes.now ≡ 0 → result ≡ true }
+// Writes all of the bytes. An error is said on standard error; a write that a signal interrupts is tried again.
+// That nobody reads any more is not said, as is usual.
+pub fn put(rt: &HostRuntime, bytes: &[u8], what: &[u8]) -> Result<(), Failed>
+    ensures { length bytes.now ≡ 0 → result ≡ Ok tt }
 {
-    let mut sent = 0;
+    let mut rest = bytes;
     // A proved loop has to end: no run uses up this number of turns.
-    let mut turns = u64::MAX;
-    while turns > 0 {
-        if sent == bytes.len() {
-            return true;
+    for _ in 0..u64::MAX {
+        if rest.is_empty() {
+            return Ok(());
         }
-        match rt.write_some(&bytes[sent..]) {
+        match rt.write_some(rest) {
             Ok(0) => {
                 say(rt, what, &Error::from(ErrorKind::WriteZero));
-                return false;
+                return Err(Failed);
             }
-            Ok(n) => sent += n,
+            Ok(n) => rest = &rest[n..],
             Err(error) => {
                 if error.kind() == ErrorKind::BrokenPipe {
-                    return false;
+                    return Err(Failed);
                 }
-                if has_failed(rt, what, &error) {
-                    return false;
-                }
+                has_failed(rt, what, &error)?;
             }
         }
-        turns -= 1;
     }
-    false
+    Err(Failed)
 }

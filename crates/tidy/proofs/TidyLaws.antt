@@ -1,22 +1,23 @@
 -- One envelope, by what opening, canonicalizing and closing answer. Assumes nothing.
 use Rattle.std.specs.Prelude.{Err, Ok}
-use mathlib.Core.Path.{◌≡◌, refl, sym}
+use mathlib.Core.Path.{◌≡◌, refl, sym, ap, ◌∙◌}
 use Prim.Native.Nat.{ℕ, ◌+◌, ◌≤◌}
 use mathlib.Core.List.{List}
 use native.Mathlib.Omega.{arith}
 use lib.ListN.{length, take, length-take}
 use Rattle.format.specs.declared.failure.Failure.{Failure}
-use Rattle.format.specs.declared.outcome.Outcome.TheVariants.{Good}
 use Rattle.format.specs.Limits.{max_bytes}
 use Rattle.format.specs.Answer.{Answer, counted, then, stored}
 use Rattle.format.specs.Written.{Writes}
 use Rattle.format.specs.Joining.{canonicalizing}
 use Rattle.format.specs.Envelope.{closing, max_envelope, opening, overhead}
-use Rattle.format.proofs.Envelopes.{closing_enough}
+use Rattle.format.proofs.Envelopes.{closing-good, closing_enough, length-envelope}
 use Rattle.format.proofs.Stored.{stored-counted, stored-failed}
+use Rattle.format.proofs.Steps.{then-good}
 use Rattle.envelope.specs.Answers.{bundle_in, bundle_in as bytesIn, size_in}
-use Rattle.envelope.proofs.OpeningLaws.{opens_as, refuses}
+use Rattle.envelope.proofs.OpeningLaws.{opens_as, refuses, size_fits}
 use Rattle.stream.specs.Run.{Makes}
+use Rattle.stream.specs.Laws.{Takes}
 use Rattle.wire.specs.Output.{Puts}
 use Rattle.stream.specs.declared.state.Step.{Step}
 use Rattle.tidy.specs.Tidied.{Closed, filter, step_of, tidied}
@@ -38,7 +39,7 @@ module _ (size : ℕ) (bs old : List ℕ) {new : List ℕ} where
       record { step = rw f t; buffer = h.buffer }
 
   pub closed_done : {n : ℕ} → Writes (closing bs (length old)) old (Ok n) new
-      → Closed size bs old (record { used = size; written = n; outcome = Good }) new
+      → Closed size bs old (record { used = size; written = n; outcome = Ok tt }) new
   unfolding step_of
   closed_done h =
       let (f, l) = stored-counted old (closing bs (length old)) h.buffer (sym h.answer) in
@@ -88,3 +89,31 @@ module _ (k : ℕ) (bs old : List ℕ) where
             puts = rw (z, f, step) (stored-puts (overhead + n) (closing (take m s') max_envelope) old
                 (rw enough at h'.buffer));
           }
+
+-- ---- the filter
+
+tidied_used : (size : ℕ) (a : Answer (List ℕ)) → (step_of size a).used ≤ size
+unfolding step_of
+tidied_used size (Err f) = omega arith
+tidied_used size (Ok e) = omega arith
+
+-- What a step takes lies in the bytes.
+pub inside : Takes filter
+inside k bs = omega (arith, tidied_used (size_in (opening bs)) (tidied (opening bs)), size_fits bs)
+
+tidied-good : (a : Answer (List ℕ)) {e : List ℕ} → tidied a ≡ Ok e → length e ≤ max_envelope
+unfolding tidied
+tidied-good a q =
+    let (b, _, q₁) = then-good a (λ b. then (canonicalizing b max_bytes) (λ c. closing c max_envelope)) q in
+    let (c, _, q₂) = then-good (canonicalizing b max_bytes) (λ c. closing c max_envelope) q₁ in
+    let g = closing-good c max_envelope q₂ in
+    omega (arith, g.1, ap length g.2 ∙ length-envelope c)
+
+tidied-short : (a b : Answer (List ℕ)) → tidied a ≡ b → length (bytesIn b) ≤ max_envelope
+unfolding bytesIn
+tidied-short a (Err f) q = omega arith
+tidied-short a (Ok e) q = tidied-good a q
+
+-- No more is written than it says.
+pub short : (k : ℕ) (a : Answer (List ℕ)) → length (filter.output k a) ≤ filter.most
+short k a = tidied-short a (tidied a) refl

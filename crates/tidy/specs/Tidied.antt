@@ -1,7 +1,6 @@
 -- What `tidy` makes of one envelope: it is opened, its bundle written canonically, and closed again.
 use Rattle.std.specs.Prelude.{◌≡◌, ℕ, List, length, Err, Ok}
 use Rattle.format.specs.Limits.{max_bytes}
-use Rattle.format.specs.declared.outcome.Outcome.TheVariants.{Failed, Good}
 use Rattle.format.specs.Answer.{Answer, then, stored}
 use Rattle.format.specs.Joining.{canonicalizing}
 use Rattle.format.specs.Envelope.{closing, max_envelope}
@@ -15,8 +14,8 @@ tidied opened = then opened (λ bs. then (canonicalizing bs max_bytes) (λ c. cl
 
 -- Of an envelope of so many bytes, by the result: one that is refused takes nothing, so that the run stops.
 unfoldable pub step_of : ℕ → Answer (List ℕ) → Step
-step_of size (Err f) = record { used = 0; written = 0; outcome = Failed f }
-step_of size (Ok e) = record { used = size; written = length e; outcome = Good }
+step_of size (Err f) = record { used = 0; written = 0; outcome = Err f }
+step_of size (Ok e) = record { used = size; written = length e; outcome = Ok tt }
 
 abbrev pub filter : Filter
 filter = record {

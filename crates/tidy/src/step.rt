@@ -5,17 +5,17 @@ ghost use Rattle.format.specs.Envelope.{max_envelope};
 ghost use Rattle.stream.specs.Run.{Makes};
 ghost use Rattle.tidy.specs.Tidied.{Closed, filter, step_of};
 
-use format::{Failure, Outcome, Written};
+use format::Failure;
 use stream::Step;
 
 // An envelope that is refused takes nothing, so that the run stops, and nothing is written for it.
 fn refused(f: Failure) -> Step
-    ensures { result ≡ step_of 0 (failed f) }
+    ensures { result ≡ step_of 0 (Err f) }
 {
     Step {
         used: 0,
         written: 0,
-        outcome: Outcome::Failed(f),
+        outcome: Err(f),
     }
 }
 
@@ -28,7 +28,7 @@ fn closed(used: usize, bundle: &[u8], out: &mut [u8]) -> Step
         Ok(written) => Step {
             used,
             written,
-            outcome: Outcome::Good,
+            outcome: Ok(()),
         },
     }
 }

@@ -1,9 +1,9 @@
-// The program `tidy`: what it does and answers is `programs::tidy_main`.
+// The program `tidy`: what it does and answers is `programs::start`.
 #![tactic(auto)]
 
-use programs::tidy_main;
+use programs::{Tidy, start};
 use std::process::ExitCode;
 
 fn main(rt: HostRuntime) -> ExitCode {
-    ExitCode::from(tidy_main(&rt))
+    ExitCode::from(start::<Tidy>(&rt))
 }

@@ -11,49 +11,12 @@ unfolding ascii
 put_labelled-a-requires c =
     bundle-fits c.args.k c.args.word.now c.args.n c.args.other.now c.args.m c.args.out.now c.requires
 
-pub slice_bounds-put_labelled-count : goal.slice_bounds-put_labelled-count
-unfolding ascii
-slice_bounds-put_labelled-count c =
-    let p = bundle-put c.args.k c.args.word.now c.args.n c.args.other.now c.args.m
-    c.args.out.now c.requires c.put_labelled-a.ensures in
-    omega (arith, room p)
-
-pub slice_bounds-put_labelled-start : goal.slice_bounds-put_labelled-start
-unfolding ascii
-slice_bounds-put_labelled-start c =
-    let p = bundle-put c.args.k c.args.word.now c.args.n c.args.other.now c.args.m
-    c.args.out.now c.requires c.put_labelled-a.ensures in
-    omega (arith, room p)
-
 pub put_labelled-requires : goal.put_labelled-requires
 unfolding ascii
 put_labelled-requires c =
     let p = bundle-put c.args.k c.args.word.now c.args.n c.args.other.now c.args.m
     c.args.out.now c.requires c.put_labelled-a.ensures in
     fits p
-
-pub overflow_add-b : goal.overflow_add-b
-unfolding ascii
-overflow_add-b c =
-    let p = bundle-put c.args.k c.args.word.now c.args.n c.args.other.now c.args.m
-    c.args.out.now c.requires c.put_labelled-a.ensures in
-    omega (arith, room p, p.wrote.long, c.put_labelled.ensures.0, c.well_formed)
-
-pub slice_bounds-put_labelled-count-2 : goal.slice_bounds-put_labelled-count-2
-unfolding ascii
-slice_bounds-put_labelled-count-2 c =
-    let p = bundle-put c.args.k c.args.word.now c.args.n c.args.other.now c.args.m
-    c.args.out.now c.requires c.put_labelled-a.ensures in
-    let q = next p _ _ c.put_labelled.ensures in
-    omega (arith, room q)
-
-pub slice_bounds-put_labelled-start-2 : goal.slice_bounds-put_labelled-start-2
-unfolding ascii
-slice_bounds-put_labelled-start-2 c =
-    let p = bundle-put c.args.k c.args.word.now c.args.n c.args.other.now c.args.m
-    c.args.out.now c.requires c.put_labelled-a.ensures in
-    let q = next p _ _ c.put_labelled.ensures in
-    omega (arith, room q)
 
 pub put_labelled-requires-2 : goal.put_labelled-requires-2
 unfolding ascii
@@ -62,15 +25,6 @@ put_labelled-requires-2 c =
     c.args.out.now c.requires c.put_labelled-a.ensures in
     let q = next p _ _ c.put_labelled.ensures in
     fits q
-
-pub overflow_add-c : goal.overflow_add-c
-unfolding ascii
-overflow_add-c c =
-    let p = bundle-put c.args.k c.args.word.now c.args.n c.args.other.now c.args.m
-    c.args.out.now c.requires
-    c.put_labelled-a.ensures in
-    let q = next p _ _ c.put_labelled.ensures in
-    omega (arith, room q, q.wrote.long, c.put_labelled-2.ensures.0, c.well_formed)
 
 pub bounds-out-c : goal.bounds-out-c
 unfolding ascii
@@ -81,26 +35,6 @@ bounds-out-c c =
     let q = next p _ _ c.put_labelled.ensures in
     let r = next q _ _ c.put_labelled-2.ensures in
     omega (arith, room r)
-
-pub overflow_add-result : goal.overflow_add-result
-unfolding ascii
-overflow_add-result c =
-    let p = bundle-put c.args.k c.args.word.now c.args.n c.args.other.now c.args.m
-    c.args.out.now c.requires
-    c.put_labelled-a.ensures in
-    let q = next p _ _ c.put_labelled.ensures in
-    let r = next q _ _ c.put_labelled-2.ensures in
-    omega (arith, room r, r.wrote.long, c.well_formed)
-
-pub shape_of-out : goal.shape_of-out
-unfolding ascii
-shape_of-out c =
-    let p = bundle-put c.args.k c.args.word.now c.args.n c.args.other.now c.args.m
-    c.args.out.now c.requires
-    c.put_labelled-a.ensures in
-    let q = next p _ _ c.put_labelled.ensures in
-    let r = next q _ _ c.put_labelled-2.ensures in
-    (next_byte r).wrote.long
 
 pub returns : goal.returns
 unfolding ascii

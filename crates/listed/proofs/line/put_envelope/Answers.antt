@@ -10,31 +10,12 @@ unfolding ascii
 put_labelled-a-requires c =
     envelope-fits c.args.k c.args.number c.args.out.now c.requires
 
-pub slice_bounds-put_labelled-count : goal.slice_bounds-put_labelled-count
-unfolding ascii
-slice_bounds-put_labelled-count c =
-    let p = envelope-put c.args.k c.args.number c.args.out.now c.requires c.put_labelled-a.ensures in
-    omega (arith, room p)
-
-pub slice_bounds-put_labelled-start : goal.slice_bounds-put_labelled-start
-unfolding ascii
-slice_bounds-put_labelled-start c =
-    let p = envelope-put c.args.k c.args.number c.args.out.now c.requires c.put_labelled-a.ensures in
-    omega (arith, room p)
-
 pub put_labelled-requires : goal.put_labelled-requires
 unfolding ascii
 put_labelled-requires c =
     let p = envelope-put c.args.k c.args.number c.args.out.now c.requires
     c.put_labelled-a.ensures in
     fits p
-
-pub overflow_add-b : goal.overflow_add-b
-unfolding ascii
-overflow_add-b c =
-    let p = envelope-put c.args.k c.args.number c.args.out.now c.requires
-    c.put_labelled-a.ensures in
-    omega (arith, room p, p.wrote.long, c.put_labelled.ensures.0, c.well_formed)
 
 pub bounds-out-b : goal.bounds-out-b
 unfolding ascii
@@ -43,22 +24,6 @@ bounds-out-b c =
     c.put_labelled-a.ensures in
     let q = next p _ _ c.put_labelled.ensures in
     omega (arith, room q)
-
-pub overflow_add-result : goal.overflow_add-result
-unfolding ascii
-overflow_add-result c =
-    let p = envelope-put c.args.k c.args.number c.args.out.now c.requires
-    c.put_labelled-a.ensures in
-    let q = next p _ _ c.put_labelled.ensures in
-    omega (arith, room q, q.wrote.long, c.well_formed)
-
-pub shape_of-out : goal.shape_of-out
-unfolding ascii
-shape_of-out c =
-    let p = envelope-put c.args.k c.args.number c.args.out.now c.requires
-    c.put_labelled-a.ensures in
-    let q = next p _ _ c.put_labelled.ensures in
-    (next_byte q).wrote.long
 
 pub returns : goal.returns
 unfolding ascii

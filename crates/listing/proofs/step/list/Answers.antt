@@ -14,4 +14,4 @@ returns-in-Err c =
 
 pub returns-in-Ok : goal.returns-in-Ok
 returns-in-Ok c =
-    lists_bundle _ _ _ c.requires _ (rw c.in-Ok.is at c.bundle_len.ensures) c.open-bundle.ensures c.put_bundle-printed.ensures
+    lists_bundle _ _ _ c.requires _ (rw c.in-Ok.is at c.bundle_len.ensures) c.«open».ensures c.put_bundle-printed.ensures
