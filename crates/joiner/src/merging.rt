@@ -59,7 +59,12 @@ fn put_both(out: &mut [u8], first: &[u8], second: &[u8], plan: &[u16; Row::MAX_C
 }
 
 // Merges two bundles that have so many rows together.
-pub fn merge<'a>(first: &'a [u8], second: &'a [u8], out: &mut [u8], rows: usize) -> Result<usize, Failure>
+pub fn merge<'a>(
+    first: &'a [u8],
+    second: &'a [u8],
+    out: &mut [u8],
+    rows: usize,
+) -> Result<usize, Failure>
     requires { Both first.now second.now rows }
     ensures { Joins lenient first.now second.now out.old result out.new }
 {
