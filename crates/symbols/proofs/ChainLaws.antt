@@ -3,17 +3,19 @@ use Rattle.std.specs.Prelude.{None, Some}
 use mathlib.Core.Path.{◌≡◌, refl, ap, sym, ◌∙◌}
 use mathlib.Core.Logic.{◌≢◌}
 use mathlib.Core.Bool.{true, false}
-use mathlib.Core.List.{List, [], ◌∷◌}
+use mathlib.Core.List.{List, [], ◌∷◌, ◌++◌, map}
 use Prim.Native.Nat.{ℕ, zero, suc, ◌+◌, ◌-◌, ◌≤◌, ◌<◌}
 use native.Mathlib.Nat.{add-zero, zero-add}
+use native.Mathlib.Numerals.{add-one}
 use native.Mathlib.Omega.{arith}
 use lib.ListN.{length, take, get_or, set, replicate, length-set, length-replicate, get_or-replicate, length-map}
-use lib.Seq.{get_or-take, length-take-le, get_or-set_same, get_or-set_other}
+use lib.Seq.{get_or-take, length-take-le, get_or-set_same, get_or-set_other, take-suc-set}
 use Rattle.format.specs.Item.{Item}
 use Rattle.format.specs.Kind as Kind
 use Rattle.format.specs.Limits.{max_entries}
 use Rattle.format.specs.Names.{same_name, index_from, index}
 use Rattle.format.proofs.Tests.{cases, clash, equal, order, eqb-true, and-true, pick_yes, pick_no, none-some}
+use Rattle.format.proofs.Lists.{map-append}
 use Rattle.format.proofs.Names.{same_true, index_at}
 use Rattle.format.proofs.Encoding.{at_lt}
 use Rattle.symbols.specs.Entry.{key_of, key_in, buckets, bucket, name, name_in, names_in, Sound}
@@ -174,6 +176,14 @@ chain_start a b es links e z =
     zeros k l = rw z (get_or-replicate links_size k 0 0 (omega arith))
 
 -- ---- one more entry
+
+-- the names of a table with one entry more
+pub names-set : (a b es : List ℕ) (count e : ℕ) → count < length es
+    → names_in a b (take (count + 1) (set es count e)) ≡ names_in a b (take count es) ++ (name_in a b e ∷ [])
+unfolding names_in
+names-set a b es count e l =
+    ap (λ (n : ℕ). map (name_in a b) (take n (set es count e))) (add-one count)
+    ∙ ap (map (name_in a b)) (take-suc-set es count e l) ∙ map-append (name_in a b) (take count es) (e ∷ [])
 
 module _ {a b es links : List ℕ} {count e : ℕ} (c : Chained a b es links count) (lt : count < max_entries) (ok : Sound a b e)
     (new : index (name_in a b e) (names_in a b (take count es)) ≡ None) where

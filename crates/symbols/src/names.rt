@@ -1,0 +1,99 @@
+// The names so far, each with its index: a table in which a name is looked up and a new one is put in.
+ghost use Rattle.symbols.specs.Chains.{Chained};
+
+use crate::entry::{Entry, bucket, is_name, pack};
+use crate::lookup::{Links, Noted};
+use format::SymbolTable;
+
+// The bytes of a name are a part of one of two texts.
+#[derive(Drop)]
+pub struct Names<'a> {
+    pub first: &'a [u8],
+    pub second: &'a [u8],
+    // packed, of which so many stand for names
+    pub entries: [u64; SymbolTable::MAX_ENTRIES],
+    pub count: usize,
+    // the chains: a head for each bucket, then the next of each entry
+    pub links: [u16; Links::SIZE],
+    pub ghost chained: { Chained first.now second.now entries links count },
+}
+
+impl<'a> Names<'a> {
+    ghost use Rattle.std.specs.Prelude.{◌≡◌, ◌+◌, ◌<◌, ◌≤◌, length, set, None};
+    ghost use Rattle.format.specs.Kind as Kind;
+    ghost use Rattle.format.specs.Limits.{max_bytes, max_entries};
+    ghost use Rattle.format.specs.Names.{index};
+    ghost use Rattle.symbols.specs.Entry.{key_of, name_in, name, Part, Sound};
+    ghost use Rattle.symbols.specs.Names.{names_of, Empty, Grown, Notes};
+
+    // None, over two texts.
+    pub fn new(first: &'a [u8], second: &'a [u8]) -> Names<'a>
+        ensures { Empty first.now second.now result }
+    {
+        let entries = SymbolTable::new();
+        let links = [0u16; Links::SIZE];
+        Names {
+            first,
+            second,
+            entries,
+            count: 0,
+            links,
+        }
+    }
+
+    // How many.
+    pub fn len(&self) -> usize
+        ensures { result ≡ self.now.count }
+    {
+        self.count
+    }
+
+    // The index of a name.
+    pub fn find(&self, kind: u8, key: u64, content: &[u8]) -> Option<usize>
+        requires { (key ≡ key_of kind content.now) × (Kind.symbol ≤ kind) × (kind ≤ Kind.key) × (length content.now ≤ max_bytes) }
+        ensures { result ≡ index (name kind content.now) (names_of self.now) }
+    {
+        let head = bucket(key);
+        let mut v = self.links[head];
+        while 0 < v {
+            let i = (v - 1) as usize;
+            if is_name(self.first, self.second, self.entries[i], kind, key, content) {
+                return Some(i);
+            }
+            v = self.links[Links::HEADS + i];
+        }
+        None
+    }
+
+    // Puts an entry at the end, in front of its chain.
+    fn enter(&mut self, e: u64)
+        requires { (self.old.count < max_entries) × Sound self.old.first.now self.old.second.now e
+            × (index (name_in self.old.first.now self.old.second.now e) (names_of self.old) ≡ None) }
+        ensures { Grown self.old self.new e }
+    {
+        let head = bucket(e);
+        let i = self.count;
+        self.entries[i] = e;
+        self.links[Links::HEADS + i] = self.links[head];
+        self.links[head] = (i + 1) as u16;
+        self.count = i + 1;
+    }
+
+    // Looks up a name that stands in one of the texts, and puts it in where it is new. The key is the caller's to make:
+    // without the marking of bytes this is short enough to be compiled into each caller, and strict reading is faster for it.
+    pub fn note(&mut self, kind: u8, key: u64, side: u64, start: usize, content: &[u8]) -> Noted
+        requires { Part self.old.first.now self.old.second.now kind side start content.now × (key ≡ key_of kind content.now) }
+        ensures { Notes self.old self.new (name kind content.now) start result }
+    {
+        match self.find(kind, key, content) {
+            Some(i) => Noted::Known(i),
+            None => {
+                if SymbolTable::MAX_ENTRIES <= self.count {
+                    return Noted::Full;
+                }
+                self.enter(pack(side, start, key));
+                Noted::Entered
+            }
+        }
+    }
+}
