@@ -2,4 +2,5 @@
 pub mod Lengths
 pub mod OutputLaws
 pub mod MeasureLaws
+pub mod MeasuringLaws
 pub mod PutLaws

@@ -3,26 +3,24 @@ use Rattle.std.specs.Prelude.{Option, None, Some, slice_get}
 use mathlib.Core.Path.{◌≡◌, refl, ap, sym, ◌∙◌}
 use mathlib.Core.Logic.{⊎_elim}
 use mathlib.Core.Bool.{true, false}
-use mathlib.Core.List.{List, [], ◌∷◌, ◌++◌, map, append-nil}
+use mathlib.Core.List.{List, [], ◌∷◌, ◌++◌, append-nil}
 use Prim.Native.Nat.{ℕ, ◌+◌, ◌≤◌, ◌<◌, zero-le}
-use native.Mathlib.Numerals.{add-one}
 use native.Mathlib.Omega.{arith}
 use lib.ListN.{length, take, get_or, set, replicate, length-set, length-append, length-replicate}
 use lib.Dec.{eqb}
-use lib.Seq.{get_or-set_same, get_or-set_other, take-append-le, take-append_seam, take-suc-set}
+use lib.Seq.{get_or-set_same, get_or-set_other, take-append-le, take-append_seam}
 use Rattle.format.specs.Header.{header}
 use Rattle.format.specs.Item.{Item, is_name}
 use Rattle.format.specs.Names.{same_name, index, noted, names_from}
 use Rattle.format.specs.Utf8.{utf8}
 use Rattle.format.specs.Canonical.{full, encoded, canonical, canonical_from}
 use Rattle.format.proofs.Tests.{clash, and-true, none-some}
-use Rattle.format.proofs.Lists.{map-append}
 use Rattle.format.proofs.Names.{names-append, canonical-append, noted-plain, noted-known, noted-fresh, index_at, at_snoc, same_true}
 use Rattle.format.proofs.Encoding.{at_lt}
 use Rattle.format.proofs.Strict.{encoded-plain, encoded-known, encoded-fresh}
 use Rattle.symbols.specs.Entry.{name_in, names_in}
 use Rattle.symbols.specs.Chains.{Chained}
-use Rattle.symbols.proofs.ChainLaws.{chain_start}
+use Rattle.symbols.proofs.ChainLaws.{chain_start, names-set}
 use Rattle.encoder.specs.Plan.{refer_to, Planned, Measured}
 
 module _ (xs : List Item) (x : Item) where
@@ -37,11 +35,11 @@ module _ (xs : List Item) (x : Item) where
   unfolding canonical canonical_from
   canonical-more = canonical-append [] xs (x ∷ []) ∙ ap (λ (l : List ℕ). canonical_from [] xs ++ l) (append-nil (encoded es x))
 
-  length_more : (size n : ℕ) → size ≡ length (canonical xs) → n ≡ length (encoded (names_from [] xs) x)
+  pub length_more : (size n : ℕ) → size ≡ length (canonical xs) → n ≡ length (encoded (names_from [] xs) x)
       → size + n ≡ length (canonical (xs ++ (x ∷ [])))
   length_more size n e f = omega (arith, ap length canonical-more ∙ length-append (canonical xs) (encoded es x))
 
-  planned-more : (plan plan' : List ℕ) → Planned plan xs → length xs < 1024 → ((j : ℕ) → j < length xs → get_or plan' j 0 ≡ get_or plan j 0)
+  pub planned-more : (plan plan' : List ℕ) → Planned plan xs → length xs < 1024 → ((j : ℕ) → j < length xs → get_or plan' j 0 ≡ get_or plan j 0)
       → (is_name x ≡ true → get_or plan' (length xs) 0 ≡ refer_to (index x (names_from [] xs))) → Planned plan' (xs ++ (x ∷ []))
   planned-more plan plan' p lt old new =
       record {
@@ -56,21 +54,13 @@ module _ (xs : List Item) (x : Item) where
 
 -- ---- references
 
-refer_some : (o : Option ℕ) (i : ℕ) → o ≡ Some i → refer_to o ≡ i
+pub refer_some : (o : Option ℕ) (i : ℕ) → o ≡ Some i → refer_to o ≡ i
 unfolding refer_to
 refer_some o i e = rw e
 
-refer_none : (o : Option ℕ) → o ≡ None → refer_to o ≡ 256
+pub refer_none : (o : Option ℕ) → o ≡ None → refer_to o ≡ 256
 unfolding refer_to
 refer_none o e = rw e
-
--- the names of a table with one entry more
-names-set : (a b es : List ℕ) (count e : ℕ) → count < length es
-    → names_in a b (take (count + 1) (set es count e)) ≡ names_in a b (take count es) ++ (name_in a b e ∷ [])
-unfolding names_in
-names-set a b es count e l =
-    ap (λ (n : ℕ). map (name_in a b) (take n (set es count e))) (add-one count)
-    ∙ ap (map (name_in a b)) (take-suc-set es count e l) ∙ map-append (name_in a b) (take count es) (e ∷ [])
 
 -- ---- before the first item
 

@@ -20,6 +20,8 @@ use Rattle.format.proofs.Names.{same_true, index_at}
 use Rattle.format.proofs.Encoding.{at_lt}
 use Rattle.symbols.specs.Entry.{key_of, key_in, buckets, bucket, name, name_in, names_in, Sound}
 use Rattle.symbols.specs.Chains.{Table, links_size, Chained}
+use Rattle.symbols.specs.declared.names.Names.{Names}
+use Rattle.symbols.specs.Names.{names_of}
 use Rattle.symbols.proofs.EntryLaws.{other_key}
 
 -- ---- names
@@ -86,6 +88,10 @@ count-le t = omega (arith, t.size, t.few)
 pub length-names : {a b es : List ℕ} {count : ℕ} → Table a b es count → length (names_in a b (take count es)) ≡ count
 unfolding names_in
 length-names {a} {b} {es} {count} t = length-map (take count es) (name_in a b) ∙ length-take-le count es (count-le t)
+
+pub length_names : (t : Names) → length (names_of t) ≡ t.count
+unfolding names_of
+length_names t = length-names t.chained.table
 
 -- ---- a search along a chain
 

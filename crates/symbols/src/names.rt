@@ -23,7 +23,7 @@ impl<'a> Names<'a> {
     ghost use Rattle.format.specs.Kind as Kind;
     ghost use Rattle.format.specs.Limits.{max_bytes, max_entries};
     ghost use Rattle.format.specs.Names.{index};
-    ghost use Rattle.symbols.specs.Entry.{key_of, name_in, name, Part, Sound};
+    ghost use Rattle.symbols.specs.Entry.{key_of, name_in, name, side_of, Part, Sound};
     ghost use Rattle.symbols.specs.Names.{names_of, Empty, Grown, Notes};
 
     // None, over two texts.
@@ -46,6 +46,13 @@ impl<'a> Names<'a> {
         ensures { result ≡ self.now.count }
     {
         self.count
+    }
+
+    // The first or the second text.
+    pub fn text(&self, side: u64) -> &'a [u8]
+        ensures { result.now ≡ side_of side self.now.first.now self.now.second.now }
+    {
+        if side == 0 { self.first } else { self.second }
     }
 
     // The index of a name.
