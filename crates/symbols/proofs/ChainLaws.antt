@@ -8,7 +8,7 @@ use Prim.Native.Nat.{ℕ, zero, suc, ◌+◌, ◌-◌, ◌≤◌, ◌<◌}
 use native.Mathlib.Nat.{add-zero, zero-add}
 use native.Mathlib.Numerals.{add-one}
 use native.Mathlib.Omega.{arith}
-use lib.ListN.{length, take, get_or, set, replicate, length-set, length-replicate, get_or-replicate, length-map}
+use lib.ListN.{length, take, drop, get_or, set, replicate, length-set, length-replicate, get_or-replicate, length-map}
 use lib.Seq.{get_or-take, length-take-le, get_or-set_same, get_or-set_other, take-suc-set}
 use Rattle.format.specs.Item.{Item}
 use Rattle.format.specs.Kind as Kind
@@ -16,13 +16,14 @@ use Rattle.format.specs.Limits.{max_entries}
 use Rattle.format.specs.Names.{same_name, index_from, index}
 use Rattle.format.proofs.Tests.{cases, clash, equal, order, eqb-true, and-true, pick_yes, pick_no, none-some}
 use Rattle.format.proofs.Lists.{map-append}
-use Rattle.format.proofs.Names.{same_true, index_at}
+use Rattle.format.proofs.Names.{same_true, index_at, item_path, same_name_refl}
 use Rattle.format.proofs.Encoding.{at_lt}
-use Rattle.symbols.specs.Entry.{key_of, key_in, buckets, bucket, name, name_in, names_in, Sound}
+use Rattle.symbols.specs.Entry.{key_of, key_in, buckets, bucket, name, name_in, names_in, part_in, Packed, Sound}
+use Rattle.symbols.specs.Entries.{part_of}
 use Rattle.symbols.specs.Chains.{Table, links_size, Chained}
 use Rattle.symbols.specs.declared.names.Names.{Names}
 use Rattle.symbols.specs.Names.{names_of}
-use Rattle.symbols.proofs.EntryLaws.{other_key}
+use Rattle.symbols.proofs.EntryLaws.{other_key, side_first}
 
 -- ---- names
 
@@ -92,6 +93,21 @@ length-names {a} {b} {es} {count} t = length-map (take count es) (name_in a b) �
 pub length_names : (t : Names) → length (names_of t) ≡ t.count
 unfolding names_of
 length_names t = length-names t.chained.table
+
+-- An entry with this part of the first text has its name, and no entry before it.
+pub placed : (t : Names) {i kind start len : ℕ} → i < t.count → Packed (get_or t.entries i 0) start 0 len kind
+    → index (part_of t.first.now kind start len).item (names_of t) ≡ Some i
+unfolding names_of name_in part_in
+placed t {i} {kind} {start} {len} l p =
+    let x : Item = (part_of t.first.now kind start len).item in
+    let a : List ℕ = t.first.now in
+    let b : List ℕ = t.second.now in
+    let e : ℕ = get_or t.entries i 0 in
+    let is : name_in a b e ≡ x = item_path p.kind_is p.length_is
+    (rw (p.length_is, p.start_is, p.side_is) (ap (λ (s : List ℕ). take len (drop start s)) (side_first 0 a b refl))) in
+    let h : same_name x (name_in a b e) ≡ true = rw is (same_name_refl x) in
+    index_some a b t.entries t.count x (count-le t.chained.table) i l h
+    (λ j k. same_via x (name_in a b e) (name_in a b (get_or t.entries j 0)) h ∙ t.chained.unlike i j l k)
 
 -- ---- a search along a chain
 

@@ -1,7 +1,7 @@
 // The names so far, each with its index: a table in which a name is looked up and a new one is put in.
 ghost use Rattle.symbols.specs.Chains.{Chained};
 
-use crate::entry::{Entry, bucket, is_name, pack};
+use crate::entry::{bucket, is_name, is_part, pack};
 use crate::lookup::{Links, Noted};
 use format::SymbolTable;
 
@@ -19,11 +19,12 @@ pub struct Names<'a> {
 }
 
 impl<'a> Names<'a> {
-    ghost use Rattle.std.specs.Prelude.{◌≡◌, ◌+◌, ◌<◌, ◌≤◌, length, set, None};
+    ghost use Rattle.std.specs.Prelude.{◌≡◌, true, ◌<◌, ◌≤◌, length, None, Some};
     ghost use Rattle.format.specs.Kind as Kind;
     ghost use Rattle.format.specs.Limits.{max_bytes, max_entries};
     ghost use Rattle.format.specs.Names.{index};
     ghost use Rattle.symbols.specs.Entry.{key_of, name_in, name, side_of, Part, Sound};
+    ghost use Rattle.symbols.specs.Entries.{part_of};
     ghost use Rattle.symbols.specs.Names.{names_of, Empty, Grown, Notes};
 
     // None, over two texts.
@@ -55,19 +56,36 @@ impl<'a> Names<'a> {
         if side == 0 { self.first } else { self.second }
     }
 
+    // Whether a name is entry i, by where it stands in the first text and without looking at its bytes.
+    pub fn is_part(&self, i: usize, kind: u8, start: usize, len: u64) -> bool
+        requires { (Kind.symbol ≤ kind) × (kind ≤ Kind.key) × (start ≤ max_bytes) × (len ≤ max_bytes) }
+        ensures { result ≡ true → index (part_of self.now.first.now kind start len).item (names_of self.now) ≡ Some i }
+    {
+        if self.count <= i {
+            return false;
+        }
+        is_part(self.entries[i], kind, start, len)
+    }
+
     // The index of a name.
     pub fn find(&self, kind: u8, key: u64, content: &[u8]) -> Option<usize>
         requires { (key ≡ key_of kind content.now) × (Kind.symbol ≤ kind) × (kind ≤ Kind.key) × (length content.now ≤ max_bytes) }
         ensures { result ≡ index (name kind content.now) (names_of self.now) }
     {
-        let head = bucket(key);
-        let mut v = self.links[head];
-        while 0 < v {
-            let i = (v - 1) as usize;
-            if is_name(self.first, self.second, self.entries[i], kind, key, content) {
+        let mut link = self.links[bucket(key)];
+        while let Some(i) = link.checked_sub(1) {
+            let i = usize::from(i);
+            if is_name(
+                self.first,
+                self.second,
+                self.entries[i],
+                kind,
+                key,
+                content,
+            ) {
                 return Some(i);
             }
-            v = self.links[Links::HEADS + i];
+            link = self.links[Links::HEADS + i];
         }
         None
     }
