@@ -2,5 +2,4 @@
 pub mod Lengths
 pub mod OutputLaws
 pub mod MeasureLaws
-pub mod MeasuringLaws
 pub mod PutLaws

@@ -25,7 +25,7 @@ use Rattle.format.proofs.Bounds.{reading-within}
 use Rattle.format.proofs.Joins.{together-fits, together-names, together-rows, together-size}
 use Rattle.symbols.proofs.EntryLaws.{side_first, side_second}
 use Rattle.symbols.proofs.ChainLaws.{length_names}
-use Rattle.encoder.proofs.MeasuringLaws.{measured-empty}
+use Rattle.encoder.proofs.MeasureLaws.{measured-none}
 use Rattle.rewriter.specs.declared.measuring.Tally.{Tally}
 use Rattle.rewriter.specs.declared.putting.Spot.{Spot}
 use Rattle.format.specs.Demand3.{Joins}
@@ -78,7 +78,7 @@ module _ {a b : List ℕ} {rows : ℕ} (p : Both a b rows) where
               room = omega (arith, p.count);
             };
             reads = rw q p.first;
-            before = record { row = refl; small = zero-le; measured = measured-empty plan e n (omega arith) };
+            before = record { row = refl; small = zero-le; measured = measured-none plan e n (omega arith) };
           })
 
       pub begun-second : {names' : Names} {plan' : List ℕ} {t : Tally}

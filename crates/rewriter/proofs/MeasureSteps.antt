@@ -23,10 +23,9 @@ use Rattle.symbols.specs.Entry.{Part, name}
 use Rattle.symbols.specs.declared.names.Names.{Names}
 use Rattle.symbols.specs.Names.{Entered, names_of}
 use Rattle.symbols.proofs.ChainLaws.{length_names}
-use Rattle.encoder.specs.Plan.{MeasuredIn}
+use Rattle.encoder.specs.Plan.{Measured}
 use Rattle.encoder.proofs.Lengths.{header-most}
-use Rattle.encoder.proofs.MeasureLaws.{names_more}
-use Rattle.encoder.proofs.MeasuringLaws.{measure_plain, measure_known, measure_fresh}
+use Rattle.encoder.proofs.MeasureLaws.{measure_plain, measure_known, measure_fresh, names_more}
 use Rattle.rewriter.specs.declared.measuring.Tally.{Tally}
 use Rattle.rewriter.specs.Measuring.{tallied, Alike, Mapped, Bundled, Partway, Further, Here, Over}
 use Rattle.rewriter.proofs.MapLaws.{mapped-noted, mapped-entry}
@@ -82,7 +81,7 @@ module _ {names : Names} {s : List ℕ} {side : ℕ} {zs : List Item} {u : State
   module _ {names' : Names} {to' plan' : List ℕ} {r : Tally} (at entries n : ℕ) (is : r ≡ tallied t at entries n) (little : n ≤ 16393)
       (ends : next.at ≡ at) (olds : length next.entries ≡ entries) (few : entries ≤ 256) (width : length to' ≡ 256)
       (mapped : Mapped (items_of next.entries) to' (noted x (names_from [] ys)))
-      (measured : MeasuredIn 1024 names' plan' (ys ++ (x ∷ [])) (t.size + n)) (alike : Alike names names') where
+      (measured : Measured 1024 names' plan' (ys ++ (x ∷ [])) (t.size + n)) (alike : Alike names names') where
     onward : Further names names' s zs u to' plan' t r
     unfolding tallied after
     onward =
@@ -119,9 +118,9 @@ module _ {names : Names} {s : List ℕ} {side : ℕ} {zs : List Item} {u : State
   names-count = ap length (sym p.measured.names) ∙ length_names names
 
   known-measured : (i : ℕ) → is_name x ≡ true → index x (names_from [] ys) ≡ Some i
-      → MeasuredIn 1024 names (set plan t.row i) (ys ++ (x ∷ [])) (t.size + length (header 7 i))
+      → Measured 1024 names (set plan t.row i) (ys ++ (x ∷ [])) (t.size + length (header 7 i))
   known-measured i n k =
-      subst (λ (j : ℕ). MeasuredIn 1024 names (set plan j i) (ys ++ (x ∷ [])) (t.size + length (header 7 i))) p.row
+      subst (λ (j : ℕ). Measured 1024 names (set plan j i) (ys ++ (x ∷ [])) (t.size + length (header 7 i))) p.row
       (measure_known p.measured x lt i (length (header 7 i)) n k refl)
 
   -- ---- a reference
@@ -192,7 +191,7 @@ module _ {names : Names} {s : List ℕ} {side : ℕ} {zs : List Item} {u : State
     module _ {names' : Names} {plan' : List ℕ} {r : Tally} (v n : ℕ)
         (is : r ≡ tallied t (t.at + h.size + h.payload) (t.entries + 1) n) (little : n ≤ 16393)
         (known : index x (noted x (names_from [] ys)) ≡ Some v)
-        (measured : MeasuredIn 1024 names' plan' (ys ++ (x ∷ [])) (t.size + n)) (alike : Alike names names') where
+        (measured : Measured 1024 names' plan' (ys ++ (x ∷ [])) (t.size + n)) (alike : Alike names names') where
       entry-on : Further names names' s zs u (set to t.entries v) plan' t r
       entry-on =
           onward _ _ n is little (content-ends turned f ∙ ap (λ (m : ℕ). m + h.size + h.payload) p.offset)

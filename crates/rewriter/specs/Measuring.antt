@@ -6,7 +6,7 @@ use Rattle.format.specs.Names.{index, names_from}
 use Rattle.format.specs.Reading.{State, items_of, lenient, reading, run}
 use Rattle.symbols.specs.Entry.{side_of}
 use Rattle.symbols.specs.declared.names.Names.{Names}
-use Rattle.encoder.specs.Plan.{MeasuredIn}
+use Rattle.encoder.specs.Plan.{Measured}
 use Rattle.rewriter.specs.declared.measuring.Tally.{Tally}
 
 -- One item more, which ends at an offset.
@@ -44,7 +44,7 @@ pub record Partway (names : Names) (s : List ℕ) (zs : List Item) (u : State) (
   pub mapped : Mapped (items_of state.entries) to (names_from [] (zs ++ items_of state.found))
   pub row : length (zs ++ items_of state.found) ≡ t.row
   pub small : t.size ≤ t.row * max_item
-  pub measured : MeasuredIn max_rows names plan (zs ++ items_of state.found) t.size
+  pub measured : Measured max_rows names plan (zs ++ items_of state.found) t.size
 
 -- One item more.
 pub record Further (old new : Names) (s : List ℕ) (zs : List Item) (u : State) (to plan : List ℕ) (t r : Tally) : Type 0 where
@@ -74,7 +74,7 @@ pub record Here (names : Names) (s : List ℕ) (side : ℕ) (to plan : List ℕ)
 pub record Tallied (names : Names) (plan : List ℕ) (zs : List Item) (t : Tally) : Type 0 where
   pub row : length zs ≡ t.row
   pub small : t.size ≤ t.row * max_item
-  pub measured : MeasuredIn max_rows names plan zs t.size
+  pub measured : Measured max_rows names plan zs t.size
 
 -- The items zs are measured, and a bundle comes next.
 pub record Begun (names : Names) (side : ℕ) (zs : List Item) (u : State) (plan : List ℕ) (t : Tally) : Type 0 where

@@ -116,7 +116,7 @@ fn name(
     let kind = kind_of(h.code);
     let p = &s[next..e];
     let key = key_of(kind, p);
-    let n = names.len();
+    let n = names.count;
     match names.note(kind, key, side, next, p) {
         Noted::Known(i) => {
             to[old] = i as u16;

@@ -33,11 +33,10 @@ use Rattle.format.proofs.Lists.{map-append, all_append}
 use Rattle.rows.specs.declared.state.State.{State}
 use Rattle.rows.specs.Stack.{bottom, Stands}
 use Rattle.rows.specs.Steps.{valued, keyed_by, named_by, opened_by}
-use Rattle.encoder.specs.Plan.{MeasuredIn}
+use Rattle.encoder.specs.Plan.{Measured}
 use Rattle.rows.specs.Judging.{After, Next, Ready, refused, taken}
 use Rattle.rows.proofs.StackLaws.{opened-length, stands-value, stands-key, stands_open}
-use Rattle.encoder.proofs.MeasureLaws.{names_more}
-use Rattle.encoder.proofs.MeasuringLaws.{measure_plain}
+use Rattle.encoder.proofs.MeasureLaws.{names_more, measure_plain}
 
 -- ---- the rules, in their order
 
@@ -115,7 +114,7 @@ module _ {text : List ℕ} {names : Names} {st plan : List ℕ} {xs : List Row} 
   pub take_next : {names' : Names} {st' plan' : List ℕ} (t : State) → names'.first.now ≡ text → first (row_rules text a.progress r) ≡ None
       → t.row ≡ s.row + 1 → t.size ≤ s.size + max_item
       → Stands st' t.depth t.left t.keyed t.row (moved a.progress.place (item_at text r))
-      → MeasuredIn plan_size names' plan' (a.progress.items ++ (item_at text r ∷ [])) t.size
+      → Measured plan_size names' plan' (a.progress.items ++ (item_at text r ∷ [])) t.size
       → Next text names' st' plan' xs r s t (Ok tt)
   unfolding with_item
   take_next t over rules er small stands measured =
@@ -154,7 +153,7 @@ module _ {text : List ℕ} {names : Names} {st plan : List ℕ} {xs : List Row} 
   pub value-next : {names' : Names} {plan' : List ℕ} (n : ℕ) {t : State} → names'.first.now ≡ text → t ≡ valued st s n → s.row < max_rows → n ≤ max_item
       → first (row_rules text a.progress r) ≡ None → is_key (item_at text r) ≡ false → is_container (item_at text r)
       && ltb 0 r.number ≡ false
-      → MeasuredIn plan_size names' plan' (a.progress.items ++ (item_at text r ∷ [])) (s.size + n)
+      → Measured plan_size names' plan' (a.progress.items ++ (item_at text r ∷ [])) (s.size + n)
       → Next text names' st plan' xs r s t (Ok tt)
   unfolding valued item_at
   value-next n over e lt l rules key box m = rw e (take_next a r (valued st s n) over rules refl (omega arith)
@@ -163,7 +162,7 @@ module _ {text : List ℕ} {names : Names} {st plan : List ℕ} {xs : List Row} 
   pub named-next : {names' : Names} {plan' : List ℕ} (n : ℕ) {t : State} → names'.first.now ≡ text → t ≡ named_by st s r.kind n
       → s.row < max_rows → n ≤ max_item → r.kind ≢ Kind.container
       → first (row_rules text a.progress r) ≡ None
-      → MeasuredIn plan_size names' plan' (a.progress.items ++ (item_at text r ∷ [])) (s.size + n)
+      → Measured plan_size names' plan' (a.progress.items ++ (item_at text r ∷ [])) (s.size + n)
       → Next text names' st plan' xs r s t (Ok tt)
   unfolding named_by keyed_by item_at is_key is_container
   named-next n over e lt l box rules m =
@@ -176,7 +175,7 @@ module _ {text : List ℕ} {names : Names} {st plan : List ℕ} {xs : List Row} 
       → s.depth < max_depth → n ≤ max_item
       → first (row_rules text a.progress r) ≡ None → is_key (item_at text r) ≡ false → is_container (item_at text r)
       && ltb 0 r.number ≡ true
-      → MeasuredIn plan_size names plan (a.progress.items ++ (item_at text r ∷ [])) (s.size + n)
+      → Measured plan_size names plan (a.progress.items ++ (item_at text r ∷ [])) (s.size + n)
       → Next text names st' plan xs r s t (Ok tt)
   unfolding opened_by item_at
   open_next n e f lt l rules key box m = rw (e, f)
@@ -226,5 +225,5 @@ module _ {text : List ℕ} {names : Names} {st plan : List ℕ} {xs : List Row} 
     few-names = omega (arith, ap length (noted-plain (item_at text r) a.progress.names no_name), names-count, names.chained.table.few)
 
     pub measured-plain : (n : ℕ) → s.row < max_rows → n ≡ length (full (item_at text r))
-        → MeasuredIn plan_size names plan (a.progress.items ++ (item_at text r ∷ [])) (s.size + n)
+        → Measured plan_size names plan (a.progress.items ++ (item_at text r ∷ [])) (s.size + n)
     measured-plain n lt e = measure_plain a.measured (item_at text r) (omega (arith, items-count)) n no_name e

@@ -29,7 +29,7 @@ use Rattle.rows.specs.Judging.{After}
 use Rattle.encoder.proofs.Lengths.{header-most, length-sized}
 use Rattle.rows.proofs.RowLaws.{content-kinds, bad-content, bad-plain, number-other, inside, content-length}
 use Rattle.symbols.specs.declared.names.Names.{Names}
-use Rattle.encoder.proofs.MeasuringLaws.{known_text}
+use Rattle.encoder.proofs.MeasureLaws.{known-text}
 use Rattle.rows.proofs.JudgeLaws.{bad_text, rule_5, rule_6, rule_3, rule_8, rule-none, names-count, keys_are, depth_is, no_keys, few-names}
 
 -- ---- with content
@@ -137,7 +137,7 @@ module _ {text : List ℕ} {names : Names} {st plan : List ℕ} {xs : List Row} 
         → first (row_rules text a.progress r) ≡ None
     unfolding item_at
     known-none i e =
-        rule-none text a.progress r fine (keys_are a r ∙ alone) name_flat (good-text (known_text a.measured (item_at text r) i e))
+        rule-none text a.progress r fine (keys_are a r ∙ alone) name_flat (good-text (known-text a.measured (item_at text r) i e))
         (omega (arith, ap length (noted-known (item_at text r) a.progress.names (ap (index (item_at text r)) a.names ∙ e)), names-count a r, names.chained.table.few))
 
     module _ (e : index (item_at text r) (names_from [] a.progress.items) ≡ None) (u : utf8 (content_of text r) ≡ true) where

@@ -30,7 +30,7 @@ use Rattle.rows.specs.Names.{Naming}
 use Rattle.rows.specs.Judging.{After, Ready, Next}
 use Rattle.encoder.proofs.Lengths.{header-most}
 use Rattle.rows.proofs.RowLaws.{content-text, kind-most, inside, content_part, content-length}
-use Rattle.encoder.proofs.MeasuringLaws.{measure_known, measure_fresh}
+use Rattle.encoder.proofs.MeasureLaws.{measure_known, measure_fresh}
 use Rattle.rows.proofs.JudgeLaws.{named-next, items-count}
 use Rattle.rows.proofs.KindLaws.{content-full, content-small, is_name_lem, known-none, fresh-none}
 

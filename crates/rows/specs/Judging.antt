@@ -12,7 +12,7 @@ use Rattle.rows.specs.declared.state.State.{State}
 use Rattle.rows.specs.Plan.{plan_size}
 use Rattle.rows.specs.Stack.{bottom, Stands}
 use Rattle.symbols.specs.declared.names.Names.{Names}
-use Rattle.encoder.specs.Plan.{MeasuredIn}
+use Rattle.encoder.specs.Plan.{Measured}
 
 -- The rows xs over a text were taken, with a table of their names, and s is the state after them.
 pub record After (text : List ℕ) (table : Names) (st plan : List ℕ) (xs : List Row) (s : State) : Type 0 where
@@ -26,7 +26,7 @@ pub record After (text : List ℕ) (table : Names) (st plan : List ℕ) (xs : Li
   pub rows : length xs ≡ s.row
   pub small : s.size ≤ s.row * max_item
   pub stands : Stands st s.depth s.left s.keyed s.row progress.place
-  pub measured : MeasuredIn plan_size table plan progress.items s.size
+  pub measured : Measured plan_size table plan progress.items s.size
 
 -- What a state is good for: one row more.
 pub record Ready (text st : List ℕ) (s : State) : Type 0 where

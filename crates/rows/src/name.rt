@@ -105,7 +105,7 @@ fn looked_up(
     }
     let kind = row.kind;
     let key = key_of(kind, part);
-    let n = names.len();
+    let n = names.count;
     match names.note(kind, key, 0, row.start, part) {
         Noted::Known(i) => known(stack, plan, s, kind, i as u16),
         Noted::Entered => fresh(stack, plan, s, row, n),

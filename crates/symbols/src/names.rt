@@ -42,13 +42,6 @@ impl<'a> Names<'a> {
         }
     }
 
-    // How many.
-    pub fn len(&self) -> usize
-        ensures { result ≡ self.now.count }
-    {
-        self.count
-    }
-
     // The first or the second text.
     pub fn text(&self, side: u64) -> &'a [u8]
         ensures { result.now ≡ side_of side self.now.first.now self.now.second.now }
@@ -75,14 +68,7 @@ impl<'a> Names<'a> {
         let mut link = self.links[bucket(key)];
         while let Some(i) = link.checked_sub(1) {
             let i = usize::from(i);
-            if is_name(
-                self.first,
-                self.second,
-                self.entries[i],
-                kind,
-                key,
-                content,
-            ) {
+            if is_name(self.first, self.second, self.entries[i], kind, key, content) {
                 return Some(i);
             }
             link = self.links[Links::HEADS + i];

@@ -19,7 +19,7 @@ use Rattle.format.specs.Rows.{blank}
 use Rattle.rows.specs.Plan.{plan_size}
 use Rattle.symbols.specs.declared.names.Names.{Names}
 use Rattle.symbols.specs.Names.{Empty}
-use Rattle.encoder.proofs.MeasuringLaws.{measured-empty}
+use Rattle.encoder.proofs.MeasureLaws.{measured-none}
 use Rattle.rows.specs.declared.state.State.{State}
 use Rattle.rows.specs.Stack.{bottom, opened_of}
 use Rattle.rows.specs.Judging.{After, Ready, Next, refused, taken}
@@ -41,7 +41,7 @@ after_none plan e long =
       rows = refl;
       small = zero-le;
       stands = record { size = length-replicate {A = ℕ} max_depth 0; deep = zero-le; high = omega arith; opened = refl; key = refl };
-      measured = measured-empty plan e long (omega arith);
+      measured = measured-none plan e long (omega arith);
     }
 
 module _ {text : List ℕ} {names : Names} {st plan : List ℕ} (rs : List Row) (i : ℕ) {s : State}

@@ -22,7 +22,7 @@ use Rattle.format.specs.Writing.{begin, fitted, judge, writing}
 use Rattle.format.proofs.Tests.{leb-true, ltb-false, ltb_no, ltb_yes, pick_no, pick_yes}
 use Rattle.format.proofs.Fitting.{fitted-fits, fitted-over}
 use Rattle.rows.specs.declared.state.State.{State}
-use Rattle.encoder.specs.Plan.{MeasuredIn}
+use Rattle.encoder.specs.Plan.{Measured}
 use Rattle.writer.specs.Putting.{Putting}
 use Rattle.writer.specs.Verdict.{Passed, Verdict, passed, refused}
 use Rattle.rows.proofs.StackLaws.{opened-length}
@@ -45,7 +45,7 @@ module _ {text plan : List ℕ} {rs : List Row} {s : State} (g : Passed text pla
   unfolding judge
   passed-ends = rw (append-nil rs) at (g.after.run []) ∙ rw (passed-due, g.after.row)
 
-  measured : MeasuredIn plan_size g.names plan (items_at text rs) s.size
+  measured : Measured plan_size g.names plan (items_at text rs) s.size
   measured = rw g.after.items at g.after.measured
 
   few-names : length (names_from [] (items_at text rs)) ≤ max_entries

@@ -54,7 +54,7 @@ referred-requires c =
     let q = name_here c.requires in (c.requires.0.partway.measured.plan_size, q.room, q.small)
 
 pub overflow_cast-to-in-Entered : goal.overflow_cast-to-in-Entered
-overflow_cast-to-in-Entered c = let g = rw c.in-Entered.is at c.note.ensures in omega (arith, c.len-n.ensures, g.grown.room)
+overflow_cast-to-in-Entered c = let g = rw c.in-Entered.is at c.note.ensures in omega (arith, g.grown.room)
 
 pub offset_bounds-to-old-in-Entered : goal.offset_bounds-to-old-in-Entered
 offset_bounds-to-old-in-Entered c =
@@ -96,7 +96,7 @@ returns-in-Entered c =
     λ zs u w p.
     let q = name_here c.requires in
     let g = rw (c.in-Entered.is, c.of-len.ensures, c.kind_of-kind.ensures, q.count) at c.note.ensures in
-    rw (c.len-n.ensures, c.fresh.ensures.planned)
+    rw (c.fresh.ensures.planned)
     (fresh_on w p c.requires.1 q.form c.requires.2 g (rw c.of-len.ensures at c.fresh.ensures.state
     ∙ ap (tallied c.args.t (c.args.t.at + c.args.h.size + c.args.h.payload) (c.args.t.entries + 1))
     (omega (arith, q.count, c.shortest_len.ensures.0))))

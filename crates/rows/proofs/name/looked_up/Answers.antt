@@ -44,7 +44,7 @@ fresh-requires c = let r = c.args.row in
     let text = c.args.names.now.first.now in
     let n = rw c.in-Entered.is at c.note.ensures in
     let i = inside text r c.requires.1.fine (has_content_lem text r c.requires.1.name c.requires.1.fine) in
-    ((text, c.requires.0), c.requires.2, omega (arith, c.len-n.ensures, n.grown.room), c.requires.1.name, kind-most text r c.requires.1.fine, omega (arith, i, c.requires.0.short))
+    ((text, c.requires.0), c.requires.2, omega (arith, n.grown.room), c.requires.1.name, kind-most text r c.requires.1.fine, omega (arith, i, c.requires.0.short))
 
 pub returns-in-Known : goal.returns-in-Known
 returns-in-Known c = λ xs a.
