@@ -57,9 +57,9 @@ abbrev pub Over : List Item → State → Type 0
 Over zs u = max_entries < length (names_from [] (zs ++ items_of u.found))
 
 -- What measuring one item comes to.
-abbrev pub Onward : Names → Names → List ℕ → List Item → State → List ℕ → List ℕ → Tally → Option Tally → Type 0
-Onward old new s zs u to plan t None = Over zs u
-Onward old new s zs u to plan t (Some r) = Further old new s zs u to plan t r
+abbrev pub Onward : Names → Names → List ℕ → List Item → State → List ℕ → List ℕ → Tally → Tally → Option Unit → Type 0
+Onward old new s zs u to plan t r None = Over zs u
+Onward old new s zs u to plan t r (Some _) = Further old new s zs u to plan t r
 
 -- What it asks.
 pub record Here (names : Names) (s : List ℕ) (side : ℕ) (to plan : List ℕ) (t : Tally) : Type 0 where

@@ -100,14 +100,14 @@ fn name(
     side: u64,
     to: &mut [u16; SymbolTable::MAX_ENTRIES],
     plan: &mut [u16; Row::MAX_COUNT],
-    t: Tally,
+    t: &mut Tally,
     h: Header,
-) -> Option<Tally>
-    requires { Here names.old s.now side to.old plan.old t
-        × (Some h ≡ header_of (drop t.at s.now)) × (Code.symbol ≤ h.code) × (h.code ≤ Code.key) }
+) -> Option<()>
+    requires { Here names.old s.now side to.old plan.old t.old
+        × (Some h ≡ header_of (drop t.old.at s.now)) × (Code.symbol ≤ h.code) × (h.code ≤ Code.key) }
     ensures { (zs : List Item) (u : State) → Bundled names.old s.now side zs u
-        → Partway names.old s.now zs u to.old plan.old t
-        → Onward names.old names.new s.now zs u to.new plan.new t result }
+        → Partway names.old s.now zs u to.old plan.old t.old
+        → Onward names.old names.new s.now zs u to.new plan.new t.old t.new result }
 {
     let next = t.at + h.size;
     let len = ByteLength::of(h);
@@ -120,14 +120,15 @@ fn name(
     match names.note(kind, key, side, next, p) {
         Noted::Known(i) => {
             to[old] = i as u16;
-            Some(referred(plan, t, e, old + 1, i as u16))
+            *t = referred(plan, *t, e, old + 1, i as u16);
         }
         Noted::Entered => {
             to[old] = n as u16;
-            Some(fresh(plan, t, e, shortest_len(h) + (e - next)))
+            *t = fresh(plan, *t, e, shortest_len(h) + (e - next));
         }
-        Noted::Full => None,
+        Noted::Full => return None,
     }
+    Some(())
 }
 
 // The item of a header.
@@ -137,30 +138,34 @@ fn headed(
     side: u64,
     to: &mut [u16; SymbolTable::MAX_ENTRIES],
     plan: &mut [u16; Row::MAX_COUNT],
-    t: Tally,
+    t: &mut Tally,
     h: Header,
-) -> Option<Tally>
-    requires { Here names.old s.now side to.old plan.old t
-        × (Some h ≡ header_of (drop t.at s.now)) }
+) -> Option<()>
+    requires { Here names.old s.now side to.old plan.old t.old
+        × (Some h ≡ header_of (drop t.old.at s.now)) }
     ensures { (zs : List Item) (u : State) → Bundled names.old s.now side zs u
-        → Partway names.old s.now zs u to.old plan.old t
-        → Onward names.old names.new s.now zs u to.new plan.new t result }
+        → Partway names.old s.now zs u to.old plan.old t.old
+        → Onward names.old names.new s.now zs u to.new plan.new t.old t.new result }
 {
     let next = t.at + h.size;
     let code = h.code;
     if is_number(code) {
-        return Some(after(t, next, t.entries, shortest_len(h)));
+        *t = after(*t, next, t.entries, shortest_len(h));
+        return Some(());
     }
     if Header::REFERENCE <= code {
-        return Some(reference(to, plan, t, next, h.payload));
+        *t = reference(to, plan, *t, next, h.payload);
+        return Some(());
     }
     if Header::SYMBOL <= code {
         return name(names, s, side, to, plan, t, h);
     }
     if is_fixed(code, h.sz) {
-        return Some(after(t, next, t.entries, h.size));
+        *t = after(*t, next, t.entries, h.size);
+        return Some(());
     }
-    Some(held(t, next, shortest_len(h), ByteLength::of(h)))
+    *t = held(*t, next, shortest_len(h), ByteLength::of(h));
+    Some(())
 }
 
 // The next item.
@@ -170,12 +175,12 @@ fn item(
     side: u64,
     to: &mut [u16; SymbolTable::MAX_ENTRIES],
     plan: &mut [u16; Row::MAX_COUNT],
-    t: Tally,
-) -> Option<Tally>
-    requires { Here names.old s.now side to.old plan.old t × (t.at < length s.now) }
+    t: &mut Tally,
+) -> Option<()>
+    requires { Here names.old s.now side to.old plan.old t.old × (t.old.at < length s.now) }
     ensures { (zs : List Item) (u : State) → Bundled names.old s.now side zs u
-        → Partway names.old s.now zs u to.old plan.old t
-        → Onward names.old names.new s.now zs u to.new plan.new t result }
+        → Partway names.old s.now zs u to.old plan.old t.old
+        → Onward names.old names.new s.now zs u to.new plan.new t.old t.new result }
 {
     match header_at(s, t.at) {
         // not in a bundle that reads
@@ -204,7 +209,7 @@ pub fn measure(
         size: from.size,
     };
     while t.at < s.len() {
-        t = item(names, s, side, &mut to, plan, t)?;
+        item(names, s, side, &mut to, plan, &mut t)?;
     }
     Some(t)
 }

@@ -14,14 +14,14 @@ item-requires c =
 pub loop-t-smaller : goal.loop-t-smaller
 loop-t-smaller c =
     let g = c.loop-t.invariant c.requires.zs c.requires.u c.requires.begun in
-    let o = rw c.in_ok-t.was at c.item.ensures in
+    let o = rw c.in_ok-item.was at c.item.ensures in
     omega (arith, c.loop-t-test.true, (o c.requires.zs c.requires.u g.bundled g.partway).ahead)
 
 pub loop-t-preserved : goal.loop-t-preserved
 loop-t-preserved c =
     λ zs u b.
     let g = c.loop-t.invariant zs u b in
-    let o = rw c.in_ok-t.was at c.item.ensures in
+    let o = rw c.in_ok-item.was at c.item.ensures in
     stage-next g (o zs u g.bundled g.partway)
 
 pub returns : goal.returns

@@ -98,7 +98,7 @@ returns-in-Entered c =
     let g = rw (c.in-Entered.is, c.of-len.ensures, c.kind_of-kind.ensures, q.count) at c.note.ensures in
     rw (c.fresh.ensures.planned)
     (fresh_on w p c.requires.1 q.form c.requires.2 g (rw c.of-len.ensures at c.fresh.ensures.state
-    ∙ ap (tallied c.args.t (c.args.t.at + c.args.h.size + c.args.h.payload) (c.args.t.entries + 1))
+    ∙ ap (tallied c.args.t.now (c.args.t.now.at + c.args.h.size + c.args.h.payload) (c.args.t.now.entries + 1))
     (omega (arith, q.count, c.shortest_len.ensures.0))))
 
 pub returns-in-Full : goal.returns-in-Full
