@@ -3,26 +3,23 @@ use Rattle.std.specs.Prelude.{Option, None, Some, slice_get}
 use mathlib.Core.Path.{◌≡◌, refl, ap, sym, ◌∙◌}
 use mathlib.Core.Logic.{⊎_elim}
 use mathlib.Core.Bool.{true, false}
-use mathlib.Core.List.{List, [], ◌∷◌, ◌++◌, map, append-nil}
+use mathlib.Core.List.{List, [], ◌∷◌, ◌++◌, append-nil}
 use Prim.Native.Nat.{ℕ, ◌+◌, ◌≤◌, ◌<◌, zero-le}
-use native.Mathlib.Numerals.{add-one}
 use native.Mathlib.Omega.{arith}
-use lib.ListN.{length, take, get_or, set, replicate, length-set, length-append, length-replicate}
+use lib.ListN.{length, get_or, set, length-set, length-append}
 use lib.Dec.{eqb}
-use lib.Seq.{get_or-set_same, get_or-set_other, take-append-le, take-append_seam, take-suc-set}
+use lib.Seq.{get_or-set_same, get_or-set_other, take-append-le, take-append_seam}
 use Rattle.format.specs.Header.{header}
 use Rattle.format.specs.Item.{Item, is_name}
 use Rattle.format.specs.Names.{same_name, index, noted, names_from}
 use Rattle.format.specs.Utf8.{utf8}
 use Rattle.format.specs.Canonical.{full, encoded, canonical, canonical_from}
 use Rattle.format.proofs.Tests.{clash, and-true, none-some}
-use Rattle.format.proofs.Lists.{map-append}
 use Rattle.format.proofs.Names.{names-append, canonical-append, noted-plain, noted-known, noted-fresh, index_at, at_snoc, same_true}
 use Rattle.format.proofs.Encoding.{at_lt}
 use Rattle.format.proofs.Strict.{encoded-plain, encoded-known, encoded-fresh}
-use Rattle.symbols.specs.Entry.{name_in, names_in}
-use Rattle.symbols.specs.Chains.{Chained}
-use Rattle.symbols.proofs.ChainLaws.{chain_start}
+use Rattle.symbols.specs.declared.names.Names.{Names}
+use Rattle.symbols.specs.Names.{Empty, Entered}
 use Rattle.encoder.specs.Plan.{refer_to, Planned, Measured}
 
 module _ (xs : List Item) (x : Item) where
@@ -64,23 +61,14 @@ refer_none : (o : Option ℕ) → o ≡ None → refer_to o ≡ 256
 unfolding refer_to
 refer_none o e = rw e
 
--- the names of a table with one entry more
-names-set : (a b es : List ℕ) (count e : ℕ) → count < length es
-    → names_in a b (take (count + 1) (set es count e)) ≡ names_in a b (take count es) ++ (name_in a b e ∷ [])
-unfolding names_in
-names-set a b es count e l =
-    ap (λ (n : ℕ). map (name_in a b) (take n (set es count e))) (add-one count)
-    ∙ ap (map (name_in a b)) (take-suc-set es count e l) ∙ map-append (name_in a b) (take count es) (e ∷ [])
-
 -- ---- before the first item
 
-pub measured-none : {slots : ℕ} (a b plan : List ℕ) → length plan ≡ slots → 1024 ≤ slots
-    → Measured slots a b (replicate 256 0) (replicate 768 0) plan [] 0 0
-unfolding names_from canonical canonical_from names_in
-measured-none a b plan long wide =
+pub measured-none : {slots : ℕ} {a b : List ℕ} {t : Names} (plan : List ℕ) → Empty a b t → length plan ≡ slots → 1024 ≤ slots
+    → Measured slots t plan [] 0
+unfolding names_from canonical canonical_from
+measured-none plan e long wide =
     record {
-      table = chain_start a b (replicate 256 0) (replicate 768 0) (length-replicate {A = ℕ} 256 0) refl;
-      names = refl;
+      names = e.none;
       texts = λ i x e. none-some e;
       length_is = refl;
       plan_size = long;
@@ -90,13 +78,12 @@ measured-none a b plan long wide =
 
 -- ---- one item more
 
-module _ {slots : ℕ} {a b es links plan : List ℕ} {xs : List Item} {count size : ℕ}
-    (m : Measured slots a b es links plan xs count size) (x : Item) (lt : length xs < 1024) where
+module _ {slots : ℕ} {t : Names} {plan : List ℕ} {xs : List Item} {size : ℕ}
+    (m : Measured slots t plan xs size) (x : Item) (lt : length xs < 1024) where
   -- what is no name
-  pub measure_plain : (n : ℕ) → is_name x ≡ false → n ≡ length (full x) → Measured slots a b es links plan (xs ++ (x ∷ [])) count (size + n)
+  pub measure_plain : (n : ℕ) → is_name x ≡ false → n ≡ length (full x) → Measured slots t plan (xs ++ (x ∷ [])) (size + n)
   measure_plain n p e =
       record {
-        table = m.table;
         names = m.names ∙ sym same_names;
         texts = λ i y q. m.texts i y (rw same_names at q);
         length_is = length_more xs x size n m.length_is (e ∙ ap length (sym (encoded-plain (names_from [] xs) x p)));
@@ -110,10 +97,9 @@ module _ {slots : ℕ} {a b es links plan : List ℕ} {xs : List Item} {count si
 
   -- a name that has an entry
   pub measure_known : (i n : ℕ) → is_name x ≡ true → index x (names_from [] xs) ≡ Some i → n ≡ length (header 7 i)
-      → Measured slots a b es links (set plan (length xs) i) (xs ++ (x ∷ [])) count (size + n)
+      → Measured slots t (set plan (length xs) i) (xs ++ (x ∷ [])) (size + n)
   measure_known i n p q e =
       record {
-        table = m.table;
         names = m.names ∙ sym same_names;
         texts = λ j y h. m.texts j y (rw same_names at h);
         length_is = length_more xs x size n m.length_is (e ∙ ap length (sym (encoded-known (names_from [] xs) x p q)));
@@ -129,18 +115,14 @@ module _ {slots : ℕ} {a b es links plan : List ℕ} {xs : List Item} {count si
       same_names = names_more xs x ∙ noted-known x (names_from [] xs) q
 
   -- a name that gets one
-  pub measure_fresh : (es' links' plan' : List ℕ) (e n : ℕ) → is_name x ≡ true → index x (names_from [] xs) ≡ None
+  pub measure_fresh : {u : Names} {start : ℕ} (plan' : List ℕ) (n : ℕ) → is_name x ≡ true → Entered t u x start
       → utf8 x.content ≡ true → n ≡ length (full x)
-      → Chained a b es' links' (count + 1) → es' ≡ set es count e → name_in a b e ≡ x
       → length plan' ≡ slots → ((j : ℕ) → j < length xs → get_or plan' j 0 ≡ get_or plan j 0) → get_or plan' (length xs) 0 ≡ 256
-      → Measured slots a b es' links' plan' (xs ++ (x ∷ [])) (count + 1) (size + n)
-  measure_fresh es' links' plan' e n p q u f ch ee en pl old new =
+      → Measured slots u plan' (xs ++ (x ∷ [])) (size + n)
+  measure_fresh plan' n p g text f pl old new =
       record {
-        table = ch;
-        names = ap (λ (l : List ℕ). names_in a b (take (count + 1) l)) ee
-            ∙ names-set a b es count e (omega (arith, ch.table.few, m.table.table.size))
-            ∙ rw (m.names, en) (sym more-names);
-        texts = λ i y h. ⊎_elim (m.texts i y) (λ (w : (i ≡ length (names_from [] xs)) × (x ≡ y)). rw w.1 at u)
+        names = g.grown.names ∙ rw (m.names, g.named) (sym more-names);
+        texts = λ i y h. ⊎_elim (m.texts i y) (λ (w : (i ≡ length (names_from [] xs)) × (x ≡ y)). rw w.1 at text)
             (at_snoc (names_from [] xs) x i (rw more-names at h));
         length_is = length_more xs x size n m.length_is (f ∙ ap length (sym (encoded-fresh (names_from [] xs) x q)));
         plan_size = pl;
@@ -148,12 +130,15 @@ module _ {slots : ℕ} {a b es links plan : List ℕ} {xs : List Item} {count si
         planned = planned-more xs x plan plan' m.planned lt old (λ _. new ∙ sym (refer_none (index x (names_from [] xs)) q));
       }
     where
+      q : index x (names_from [] xs) ≡ None
+      q = rw m.names at g.new
+
       more-names : names_from [] (xs ++ (x ∷ [])) ≡ names_from [] xs ++ (x ∷ [])
       more-names = names_more xs x ∙ noted-fresh x (names_from [] xs) p q
 
 -- A name that stands in the table is text.
-pub known-text : {slots : ℕ} {a b es links plan : List ℕ} {xs : List Item} {count size : ℕ}
-    → Measured slots a b es links plan xs count size → (x : Item) (i : ℕ) → index x (names_from [] xs) ≡ Some i
+pub known-text : {slots : ℕ} {t : Names} {plan : List ℕ} {xs : List Item} {size : ℕ}
+    → Measured slots t plan xs size → (x : Item) (i : ℕ) → index x (names_from [] xs) ≡ Some i
     → utf8 x.content ≡ true
 unfolding same_name
 known-text {xs = xs} m x i e =

@@ -8,8 +8,8 @@ use Rattle.format.specs.Item.{Item, is_name}
 use Rattle.format.specs.Names.{index, names_from}
 use Rattle.format.specs.Utf8.{utf8}
 use Rattle.format.specs.Canonical.{canonical, full}
-use Rattle.symbols.specs.Entry.{names_in}
-use Rattle.symbols.specs.Chains.{Chained}
+use Rattle.symbols.specs.declared.names.Names.{Names}
+use Rattle.symbols.specs.Names.{names_of}
 
 -- In place of an index: a name in full.
 abbrev pub no_index : ℕ
@@ -33,10 +33,9 @@ pub record Planned (plan : List ℕ) (xs : List Item) : Type 0 where
   pub long : length xs ≤ max_rows
   pub refers : (j : ℕ) (x : Item) → slice_get xs j ≡ Some x → is_name x ≡ true → get_or plan j 0 ≡ refer_to (index x (names_from [] (take j xs)))
 
--- The items xs are measured: their names are the first entries of a table over the slices a and b. The plan is an array of so many slots.
-pub record Measured (slots : ℕ) (a b es links plan : List ℕ) (xs : List Item) (count size : ℕ) : Type 0 where
-  pub table : Chained a b es links count
-  pub names : names_in a b (take count es) ≡ names_from [] xs
+-- The items xs are measured: their names are those of a table. The plan is an array of so many slots.
+pub record Measured (slots : ℕ) (t : Names) (plan : List ℕ) (xs : List Item) (size : ℕ) : Type 0 where
+  pub names : names_of t ≡ names_from [] xs
   -- so that a name that stands in the table need not be looked at again
   pub texts : (i : ℕ) (x : Item) → slice_get (names_from [] xs) i ≡ Some x → utf8 x.content ≡ true
   pub length_is : size ≡ length (canonical xs)

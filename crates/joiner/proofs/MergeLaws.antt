@@ -1,37 +1,38 @@
 -- Two bundles that read, measured one after the other and then written: what each way out means. Assumes nothing.
-use Rattle.std.specs.Prelude.{Ok}
+use Rattle.std.specs.Prelude.{Option, None, Some, Ok}
 use mathlib.Core.Path.{◌≡◌, refl, ap, ◌∙◌}
 use mathlib.Core.Bool.{true, false}
 use mathlib.Core.List.{List, [], ◌++◌, append-nil}
 use Prim.Native.Nat.{ℕ, ◌≤◌, ◌<◌, min, zero-le}
 use native.Mathlib.Omega.{arith}
 use lib.Dec.{ltb}
-use lib.ListN.{length, replicate, length-append}
+use lib.ListN.{length, length-append}
 use Rattle.format.specs.declared.error.Error.{Error}
 use Rattle.format.specs.declared.error.Error.TheVariants.{OutputTooLong, TooManyEntries, TooManyRows}
 use Rattle.format.specs.Limits.{max_entries, max_rows, max_bytes}
 use Rattle.format.specs.Answer.{Answer, counted, fail, on_side, stored, then}
 use Rattle.format.specs.Item.{Item}
 use Rattle.format.specs.Names.{names_from}
-use Rattle.format.specs.Reading.{items, items_of, lenient}
+use Rattle.format.specs.Reading.{State, items, items_of, lenient}
 use Rattle.format.specs.Canonical.{canonical, canonical_from}
 use Rattle.format.specs.Joining.{joining, together}
-use Rattle.symbols.specs.Chains.{links_size}
+use Rattle.symbols.specs.declared.names.Names.{Names}
+use Rattle.symbols.specs.Names.{Empty}
 use Rattle.format.proofs.Tests.{leb-true, ltb-false}
 use Rattle.format.proofs.Lists.{length-items}
 use Rattle.format.proofs.ReadBack.{reading-reads}
 use Rattle.format.proofs.Bounds.{reading-within}
 use Rattle.format.proofs.Joins.{together-fits, together-names, together-rows, together-size}
 use Rattle.symbols.proofs.EntryLaws.{side_first, side_second}
-use Rattle.symbols.proofs.ChainLaws.{length-names}
+use Rattle.symbols.proofs.ChainLaws.{length_names}
 use Rattle.encoder.proofs.MeasureLaws.{measured-none}
 use Rattle.rewriter.specs.declared.measuring.Tally.{Tally}
 use Rattle.rewriter.specs.declared.putting.Spot.{Spot}
 use Rattle.format.specs.Demand3.{Joins}
-use Rattle.rewriter.specs.Measuring.{Begun, Measures, Tallied, all, over}
+use Rattle.rewriter.specs.Measuring.{Begun, Measures, Over, Tallied, text_of}
 use Rattle.rewriter.specs.Putting as putting
 use Rattle.rewriter.specs.Putting.{Planning}
-use Rattle.joiner.specs.Merging.{Both, Measured, Planned, Put, begun, top}
+use Rattle.joiner.specs.Merging.{Both, Measured, Planned, Put, Tabled, begun, top}
 
 -- before the first item
 pub put-none : (old : List ℕ) → putting.Put [] old old top
@@ -64,87 +65,84 @@ module _ {a b : List ℕ} {rows : ℕ} (p : Both a b rows) where
   -- ---- measured
 
   module _ (l : rows ≤ max_rows) where
-    pub begun_first : (plan : List ℕ) → length plan ≡ max_rows
-        → Begun a b a 0 [] p.u (replicate max_entries 0) (replicate links_size 0) plan begun
-    begun_first plan n =
-        record {
-          bundled = record {
-            sides = omega arith;
-            which = side_first 0 a b refl;
-            short = (reading-reads a p.first).0;
-            room = omega (arith, p.count);
-          };
-          reads = p.first;
-          before = record { row = refl; small = zero-le; measured = measured-none a b plan n (omega arith) };
-        }
+    module _ {names : Names} {plan : List ℕ} {start : Tally} (z : start ≡ begun) (e : Empty a b names) (n : length plan ≡ max_rows) where
+      pub begun_first : Begun names 0 [] p.u plan start
+      begun_first =
+          let q : text_of names 0 ≡ a = side_first 0 names.first.now names.second.now refl ∙ e.first in
+          rw z
+          (record {
+            bundled = record {
+              sides = omega arith;
+              which = refl;
+              short = rw q (reading-reads a p.first).0;
+              room = omega (arith, p.count);
+            };
+            reads = rw q p.first;
+            before = record { row = refl; small = zero-le; measured = measured-none plan e n (omega arith) };
+          })
 
-    module _ {es links plan : List ℕ} {t : Tally} where
-      -- one bundle has not too many names
-      first-tallied : Measures a b [] p.u es links plan t → Tallied a b es links plan xs t
-      first-tallied (all m) = m
-      first-tallied (over n l) = absurd (omega (arith, (reading-within lenient a p.first).names))
-
-      pub begun-second : Measures a b [] p.u es links plan t → Begun a b b 1 xs p.v es links plan t
-      begun-second m =
+      pub begun-second : {names' : Names} {plan' : List ℕ} {t : Tally}
+          → ((zs : List Item) (u : State) → Begun names 0 zs u plan start → Measures names names' zs u plan' (Some t))
+          → Begun names' 1 xs p.v plan' t
+      begun-second {names'} m =
+          let (t, k) = m [] p.u begun_first in
+          let q : text_of names' 1 ≡ b = side_second 1 names'.first.now names'.second.now (λ h. omega arith) ∙ k.second ∙ e.second in
           record {
             bundled = record {
               sides = omega arith;
-              which = side_second 1 a b (λ e. omega arith);
-              short = (reading-reads b p.second).0;
+              which = refl;
+              short = rw q (reading-reads b p.second).0;
               room = omega (arith, length-items p.u.found, p.count);
             };
-            reads = p.second;
-            before = first-tallied m;
+            reads = rw q p.second;
+            before = t;
           }
+
+    -- one bundle has not too many names
+    pub first-fits : Over [] p.u → ⊥
+    first-fits l = absurd (omega (arith, (reading-within lenient a p.first).names))
+
+    pub both-measured : (old new : Names) (plan : List ℕ) (t : Option Tally) → Measures old new xs p.v plan t → Measured p plan t
+    both-measured old new plan None m = m
+    both-measured old new plan (Some t) m = record { names = new; tallied = m.0 }
 
     few : length (xs ++ ys) ≤ max_rows
     few = rw both-rows l
 
-    module _ {plan : List ℕ} {t : Tally} (m : Measured p plan t) (old : List ℕ) where
-      many : max_entries < t.names → max_entries < length (names_from [] (xs ++ ys))
-      many g = go m.measures
-        where
-          go : Measures a b xs p.v m.entries m.links plan t → max_entries < length (names_from [] (xs ++ ys))
-          go (all k) = absurd (omega (arith, k.measured.table.table.few))
-          go (over n h) = h
+    pub names-over : (old : List ℕ) {r : Answer ℕ} → r ≡ fail TooManyEntries 0 → max_entries < length (names_from [] (xs ++ ys))
+        → Joins lenient a b old r old
+    names-over old q g = refused old TooManyEntries q (together-names (length old) (xs ++ ys) few g)
 
-      pub names-over : {r : Answer ℕ} → r ≡ fail TooManyEntries 0 → max_entries < t.names → Joins lenient a b old r old
-      names-over q g = refused old TooManyEntries q (together-names (length old) (xs ++ ys) few (many g))
+    module _ {plan : List ℕ} {t : Tally} (m : Tabled p plan t) (old : List ℕ) where
+      abbrev tallied : Tallied m.names plan (xs ++ ys) t
+      tallied = m.tallied
 
-      module _ (g : t.names ≤ max_entries) where
-        tallied : Tallied a b m.entries m.links plan (xs ++ ys) t
-        tallied = go m.measures
-          where
-            go : Measures a b xs p.v m.entries m.links plan t → Tallied a b m.entries m.links plan (xs ++ ys) t
-            go (all k) = k
-            go (over n h) = absurd (omega arith)
+      names : length (names_from [] (xs ++ ys)) ≤ max_entries
+      names = omega (arith, ap length tallied.measured.names, length_names m.names, m.names.chained.table.few)
 
-        names : length (names_from [] (xs ++ ys)) ≤ max_entries
-        names = omega (arith, ap length tallied.measured.names, length-names tallied.measured.table.table)
+      pub size-over : {r : Answer ℕ} → r ≡ fail OutputTooLong 0
+          → ltb (min max_bytes (length old)) t.size ≡ true → Joins lenient a b old r old
+      size-over q o =
+          refused old OutputTooLong q
+          (together-size (length old) (xs ++ ys) few names (rw (← tallied.measured.length_is) (leb-true _ _ o)))
 
-        pub size-over : {r : Answer ℕ} → r ≡ fail OutputTooLong 0
-            → ltb (min max_bytes (length old)) t.size ≡ true → Joins lenient a b old r old
-        size-over q o =
-            refused old OutputTooLong q
-            (together-size (length old) (xs ++ ys) few names (rw (← tallied.measured.length_is) (leb-true _ _ o)))
+      module _ (o : ltb (min max_bytes (length old)) t.size ≡ false) where
+        fits : length (canonical (xs ++ ys)) ≤ min max_bytes (length old)
+        fits = rw (← tallied.measured.length_is) (ltb-false _ _ o)
 
-        module _ (o : ltb (min max_bytes (length old)) t.size ≡ false) where
-          fits : length (canonical (xs ++ ys)) ≤ min max_bytes (length old)
-          fits = rw (← tallied.measured.length_is) (ltb-false _ _ o)
+        pub planned : Planned p plan (length old)
+        planned = record {
+          size = tallied.measured.plan_size;
+          planned = tallied.measured.planned;
+          few = names;
+          fits = omega (arith, fits);
+        }
 
-          pub planned : Planned p plan (length old)
-          planned = record {
-            size = tallied.measured.plan_size;
-            planned = tallied.measured.planned;
-            few = names;
-            fits = omega (arith, fits);
-          }
-
-          pub written : {new : List ℕ} {w : Spot} → Put p old new w → Joins lenient a b old (Ok t.size) new
-          unfolding counted stored then
-          written q =
-              let e = joined (length old) ∙ together-fits (length old) (xs ++ ys) (record { rows = few; names = names; size = fits }) in
-              record { answer = rw e (ap Ok tallied.measured.length_is); buffer = rw e q.puts.1 }
+        pub written : {new : List ℕ} {w : Spot} → Put p old new w → Joins lenient a b old (Ok t.size) new
+        unfolding counted stored then
+        written q =
+            let e = joined (length old) ∙ together-fits (length old) (xs ++ ys) (record { rows = few; names = names; size = fits }) in
+            record { answer = rw e (ap Ok tallied.measured.length_is); buffer = rw e q.puts.1 }
 
   -- ---- written
 

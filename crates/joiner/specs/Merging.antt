@@ -1,19 +1,20 @@
 -- Two bundles that read, measured one after the other and then written.
-use Rattle.std.specs.Prelude.{ℕ, ◌+◌, ◌≤◌, ◌≡◌, List, [], ◌++◌, length, Ok}
+use Rattle.std.specs.Prelude.{ℕ, ◌+◌, ◌≤◌, ◌<◌, ◌≡◌, List, [], ◌++◌, length, Option, None, Some, Ok}
 use Rattle.format.specs.Limits.{max_rows, max_entries}
 use Rattle.format.specs.Item.{Item}
 use Rattle.format.specs.Names.{names_from}
 use Rattle.format.specs.Reading.{State, items_of, lenient, reading}
 use Rattle.format.specs.Canonical.{canonical}
+use Rattle.symbols.specs.declared.names.Names.{Names}
 use Rattle.encoder.specs.Plan as encoder
 use Rattle.rewriter.specs.declared.measuring.Tally.{Tally}
 use Rattle.rewriter.specs.declared.putting.Spot.{Spot}
-use Rattle.rewriter.specs.Measuring.{Measures}
+use Rattle.rewriter.specs.Measuring.{Tallied}
 use Rattle.rewriter.specs.Putting as putting
 
 -- Before the first item.
 abbrev pub begun : Tally
-begun = record { at = 0; entries = 0; row = 0; names = 0; size = 0 }
+begun = record { at = 0; entries = 0; row = 0; size = 0 }
 
 abbrev pub top : Spot
 top = record { at = 0; row = 0; out = 0 }
@@ -36,10 +37,14 @@ pub record Fitting (a b : List ℕ) : Type 0 where
   pub few : rows ≤ max_rows
 
 -- Both are measured.
-pub record Measured {a b : List ℕ} {rows : ℕ} (p : Both a b rows) (plan : List ℕ) (t : Tally) : Type 0 where
-  pub entries : List ℕ
-  pub links : List ℕ
-  pub measures : Measures a b (items_of p.u.found) p.v entries links plan t
+pub record Tabled {a b : List ℕ} {rows : ℕ} (p : Both a b rows) (plan : List ℕ) (t : Tally) : Type 0 where
+  pub names : Names
+  pub tallied : Tallied names plan (items_of_both p) t
+
+-- What measuring both comes to: there is a name too many where they are not measured.
+abbrev pub Measured : {a b : List ℕ} {rows : ℕ} → Both a b rows → List ℕ → Option Tally → Type 0
+Measured p plan None = max_entries < length (names_from [] (items_of_both p))
+Measured p plan (Some t) = Tabled p plan t
 
 -- Both are planned, and fit the buffer.
 pub record Planned {a b : List ℕ} {rows : ℕ} (p : Both a b rows) (plan : List ℕ) (capacity : ℕ) : Type 0 where

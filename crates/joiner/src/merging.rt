@@ -6,10 +6,10 @@ ghost use Rattle.format.specs.Limits.{max_rows};
 ghost use Rattle.joiner.specs.Merging.{Both, Fitting, Measured, Ready, Planned, Put, begun, top};
 
 use encoder::fitting::is_over;
-use format::{Error, Failure, Row, SymbolTable, fail};
+use format::{Error, Failure, Row, fail};
 use rewriter::measuring::{Tally, measure};
 use rewriter::putting::{Spot, put};
-use symbols::lookup::Links;
+use symbols::names::Names;
 
 // Before the first item.
 fn begin() -> Tally
@@ -19,7 +19,6 @@ fn begin() -> Tally
         at: 0,
         entries: 0,
         row: 0,
-        names: 0,
         size: 0,
     }
 }
@@ -34,17 +33,19 @@ fn start() -> Spot
     }
 }
 
-// Measures both bundles, and plans how their names are written.
-fn measure_both<'a>(first: &'a [u8], second: &'a [u8], plan: &mut [u16; Row::MAX_COUNT]) -> Tally
+// Measures both bundles, and plans how their names are written: none where there is a name too many.
+fn measure_both<'a>(
+    first: &'a [u8],
+    second: &'a [u8],
+    plan: &mut [u16; Row::MAX_COUNT],
+) -> Option<Tally>
     requires { Fitting first.now second.now × (length plan.old ≡ max_rows) }
     ensures { (rows : ℕ) (p : Both first.now second.now rows) → rows ≤ max_rows
         → Measured p plan.new result }
 {
-    let mut entries = SymbolTable::new();
-    let mut links = [0u16; Links::SIZE];
-    let t = begin();
-    let t = measure(first, second, first, 0, &mut entries, &mut links, plan, t);
-    measure(first, second, second, 1, &mut entries, &mut links, plan, t)
+    let mut names = Names::new(first, second);
+    let t = measure(&mut names, 0, plan, begin())?;
+    measure(&mut names, 1, plan, t)
 }
 
 // Writes both bundles as planned.
@@ -72,10 +73,10 @@ pub fn merge<'a>(
         return fail(Error::TooManyRows, 0);
     }
     let mut plan = [0u16; Row::MAX_COUNT];
-    let t = measure_both(first, second, &mut plan);
-    if SymbolTable::MAX_ENTRIES < t.names {
-        return fail(Error::TooManyEntries, 0);
-    }
+    let t = match measure_both(first, second, &mut plan) {
+        Some(t) => t,
+        None => return fail(Error::TooManyEntries, 0),
+    };
     if is_over(t.size, out.len()) {
         return fail(Error::OutputTooLong, 0);
     }

@@ -1,7 +1,7 @@
 -- A bundle measured whole: before its first item, one item after the other, and at its end. Assumes nothing.
 use mathlib.Core.Path.{◌≡◌, ap, sym, ◌∙◌, subst}
 use mathlib.Core.List.{List, ◌++◌, append-nil}
-use Prim.Native.Nat.{ℕ, ◌-◌, ◌≤◌, ◌<◌}
+use Prim.Native.Nat.{ℕ, ◌≤◌}
 use native.Mathlib.Omega.{arith}
 use lib.ListN.{length}
 use Rattle.format.specs.Item.{Item}
@@ -9,63 +9,68 @@ use Rattle.format.specs.Reading.{State, items_of, lenient, start}
 use Rattle.format.proofs.ReadBack.{reading-reads}
 use Rattle.format.proofs.Turns.{all_read}
 use Rattle.format.proofs.Steps.{reads-run}
+use Rattle.symbols.specs.declared.names.Names.{Names}
 use Rattle.rewriter.specs.declared.measuring.Tally.{Tally}
-use Rattle.rewriter.specs.Measuring.{Bundled, Partway, Stage, Onward, Here, Begun, Measures, Tallied, on, over}
-use Rattle.rewriter.specs.Measuring as measuring
+use Rattle.rewriter.specs.Measuring.{Alike, Bundled, Partway, Further, Here, Begun, Tallied, text_of}
 use Rattle.rewriter.proofs.MapLaws.{mapped-start}
+use Rattle.rewriter.proofs.MeasureSteps.{alike_self}
 
--- Only the counts matter.
-pub begun_as : {a b s : List ℕ} {side : ℕ} {zs : List Item} {u : State} {es links plan : List ℕ} {t r : Tally}
-    → Begun a b s side zs u es links plan t
-    → r.row ≡ t.row → r.names ≡ t.names → r.size ≡ t.size → Begun a b s side zs u es links plan r
-begun_as g er en es =
-    record {
-      bundled = g.bundled;
-      reads = g.reads;
-      before = record {
-        row = g.before.row ∙ sym er;
-        small = rw (er, es) g.before.small;
-        measured = rw (en, es) g.before.measured;
-      };
-    }
+-- Where measuring has come to: the bundle s is a text still, and its items up to an offset are measured.
+pub record Stage (old new : Names) (s : List ℕ) (side : ℕ) (zs : List Item) (u : State) (to plan : List ℕ) (t : Tally) : Type 0 where
+  pub bundled : Bundled new s side zs u
+  pub partway : Partway new s zs u to plan t
+  pub alike : Alike old new
 
 -- before the first item
-pub stage-start : {a b s : List ℕ} {side : ℕ} {zs : List Item} {u : State} {es links plan : List ℕ} {t : Tally}
-    (to : List ℕ) → Begun a b s side zs u es links plan t
-    → t.at ≡ 0 → t.entries ≡ 0 → length to ≡ 256 → Stage a b s zs u es links to plan t
+pub stage-start : {names : Names} {s : List ℕ} {side : ℕ} {zs : List Item} {u : State} {plan : List ℕ} {from t : Tally}
+    (to : List ℕ) → Begun names side zs u plan from → s ≡ text_of names side
+    → t.at ≡ 0 → t.entries ≡ 0 → t.row ≡ from.row → t.size ≡ from.size → length to ≡ 256 → Stage names names s side zs u to plan t
 unfolding start items_of
-stage-start {s = s} {zs = zs} to g ea ee width =
-    on (record {
-      state = start;
-      offset = sym ea;
-      reads = reads-run (reading-reads s g.reads).1;
-      entries = sym ee;
-      few = omega arith;
-      width = width;
-      mapped = mapped-start to _;
-      row = ap length (append-nil zs) ∙ g.before.row;
-      small = g.before.small;
-      measured = rw (append-nil zs) g.before.measured;
+stage-start {names} {s} {side} {zs = zs} {from} to g es ea ee er ez width =
+    rw es
+    (record {
+      bundled = g.bundled;
+      partway = record {
+        state = start;
+        offset = sym ea;
+        reads = reads-run (reading-reads (text_of names side) g.reads).1;
+        entries = sym ee;
+        few = omega arith;
+        width = width;
+        mapped = mapped-start to _;
+        row = ap length (append-nil zs) ∙ g.before.row ∙ sym er;
+        small = rw (er, ez) g.before.small;
+        measured = rw (append-nil zs, ez) g.before.measured;
+      };
+      alike = alike_self;
     })
 
-module _ {a b s : List ℕ} {side : ℕ} {zs : List Item} {u : State} (w : Bundled a b s side zs u)
-    {es links to plan : List ℕ} {t : Tally} where
+module _ {old names : Names} {s : List ℕ} {side : ℕ} {zs : List Item} {u : State} {to plan : List ℕ} {t : Tally}
+    (g : Stage old names s side zs u to plan t) where
   -- an item is left
-  pub stage_here : Stage a b s zs u es links to plan t → t.at < length s → Here a b s side es links to plan t
-  stage_here (on p) l = record { zs = zs; u = u; bundled = w; partway = p }
-  stage_here (over k n m) l = absurd (omega arith)
+  pub stage_here : Here names s side to plan t
+  stage_here = record { zs = zs; u = u; bundled = g.bundled; partway = g.partway }
 
-  pub stage-next : {es' links' to' plan' : List ℕ} {r : Tally} → Stage a b s zs u es links to plan t → t.at < length s
-      → ((zs : List Item) (u : State) → Bundled a b s side zs u → Partway a b s zs u es links to plan t
-      → Onward a b s zs u es' links' to' plan' t r)
-      → Stage a b s zs u es' links' to' plan' r × (length s - r.at < length s - t.at)
-  stage-next (on p) l f = let o = f zs u w p in (o.stage, omega (arith, o.ahead))
-  stage-next (over k n m) l f = absurd (omega arith)
+  pub stage-next : {new : Names} {to' plan' : List ℕ} {r : Tally} → Further names new s zs u to' plan' t r
+      → Stage old new s side zs u to' plan' r
+  stage-next o =
+      record {
+        bundled = record {
+          sides = g.bundled.sides;
+          which = rw (o.alike.first, o.alike.second) g.bundled.which;
+          short = g.bundled.short;
+          room = g.bundled.room;
+        };
+        partway = o.partway;
+        alike = record { first = o.alike.first ∙ g.alike.first; second = o.alike.second ∙ g.alike.second };
+      }
 
   -- none is left
-  pub stage-end : Stage a b s zs u es links to plan t → length s ≤ t.at → Measures a b zs u es links plan t
-  stage-end (on p) l =
-      let e = all_read lenient s p.state p.reads (omega (arith, p.offset)) in
-      measuring.all (subst (λ (v : State). Tallied a b es links plan (zs ++ items_of v.found) t) e
-      (record { row = p.row; small = p.small; measured = p.measured }))
-  stage-end (over k n m) l = measuring.over n m
+  pub stage-end : length s ≤ t.at → Tallied names plan (zs ++ items_of u.found) t × Alike old names
+  stage-end l =
+      let p = g.partway in
+      let e = all_read lenient s p.state p.reads (omega (arith, p.offset)) in (
+        subst (λ (v : State). Tallied names plan (zs ++ items_of v.found) t) e
+            (record { row = p.row; small = p.small; measured = p.measured }),
+        g.alike,
+      )

@@ -13,7 +13,8 @@ use crate::item::{is_fixed, is_number, shortest_len};
 use encoder::putting::Reference;
 use format::{ByteLength, Header, Row, SymbolTable};
 use symbols::entry::key_of;
-use symbols::lookup::{Links, Noted, note};
+use symbols::lookup::Noted;
+use symbols::names::Names;
 use wire::header::{header_at, header_len, kind_of};
 
 // How far measuring has come.
@@ -25,27 +26,19 @@ pub struct Tally {
     pub entries: usize,
     // rows, with those of the bundle before it
     pub row: usize,
-    // different names, likewise
-    pub names: usize,
     // bytes of the canonical encoding, likewise
     pub size: usize,
 }
 
-impl Tally {
-    // in place of the count of names: there is one too many
-    pub const OVER: usize = SymbolTable::MAX_ENTRIES + 1;
-}
-
 // After an item of n bytes that ends at an offset.
-fn after(t: Tally, at: usize, entries: usize, names: usize, n: usize) -> Tally
+fn after(t: Tally, at: usize, entries: usize, n: usize) -> Tally
     requires { (t.row < max_rows) × (t.size + n < 2 ^ 64) }
-    ensures { result ≡ tallied t at entries names n }
+    ensures { result ≡ tallied t at entries n }
 {
     Tally {
         at,
         entries,
         row: t.row + 1,
-        names,
         size: t.size + n,
     }
 }
@@ -53,22 +46,22 @@ fn after(t: Tally, at: usize, entries: usize, names: usize, n: usize) -> Tally
 // After an item with a header of n bytes and content, which begins at next.
 fn held(t: Tally, next: usize, n: usize, len: ByteLength) -> Tally
     requires { (t.row < max_rows) × (t.size + max_item < 2 ^ 64) × (next ≤ max_bytes) × (n ≤ max_header) × (len.0 ≤ max_bytes) }
-    ensures { result ≡ tallied t (next + len.0) t.entries t.names (n + len.0) }
+    ensures { result ≡ tallied t (next + len.0) t.entries (n + len.0) }
 {
     let content = len.0 as usize;
-    after(t, next + content, t.entries, t.names, n + content)
+    after(t, next + content, t.entries, n + content)
 }
 
 // After a name that has an index.
 fn referred(plan: &mut [u16; Row::MAX_COUNT], t: Tally, at: usize, entries: usize, i: u16) -> Tally
     requires { (length plan.old ≡ max_rows) × (t.row < max_rows) × (t.size + max_item < 2 ^ 64) }
-    ensures state { result ≡ tallied t at entries t.names (length (header Code.reference i)) }
+    ensures state { result ≡ tallied t at entries (length (header Code.reference i)) }
     ensures planned { plan.new ≡ set plan.old t.row i }
 {
     let row = t.row;
     plan[row] = i;
     let n = header_len(Header::REFERENCE, i as u64);
-    after(t, at, entries, t.names, n)
+    after(t, at, entries, n)
 }
 
 // A reference: its entry has an index among the names so far.
@@ -81,7 +74,7 @@ fn reference(
 ) -> Tally
     requires { (length to.now ≡ max_entries) × (index < max_entries) × (length plan.old ≡ max_rows)
         × (t.row < max_rows) × (t.size + max_item < 2 ^ 64) }
-    ensures state { result ≡ tallied t next t.entries t.names (length (header Code.reference (get_or to.now index 0))) }
+    ensures state { result ≡ tallied t next t.entries (length (header Code.reference (get_or to.now index 0))) }
     ensures planned { plan.new ≡ set plan.old t.row (get_or to.now index 0) }
 {
     let i = index as usize;
@@ -91,48 +84,30 @@ fn reference(
 // A name of n bytes in full that ends at e, which is new.
 fn fresh(plan: &mut [u16; Row::MAX_COUNT], t: Tally, e: usize, n: usize) -> Tally
     requires { (length plan.old ≡ max_rows) × (t.row < max_rows) × (t.size + max_item < 2 ^ 64) × (n ≤ max_item)
-        × (t.entries < max_entries) × (t.names < max_entries) }
-    ensures state { result ≡ tallied t e (t.entries + 1) (t.names + 1) n }
+        × (t.entries < max_entries) }
+    ensures state { result ≡ tallied t e (t.entries + 1) n }
     ensures planned { plan.new ≡ set plan.old t.row max_entries }
 {
     let row = t.row;
     plan[row] = Reference::FULL;
-    after(t, e, t.entries + 1, t.names + 1, n)
+    after(t, e, t.entries + 1, n)
 }
 
-// One name too many: the rest of the bundle, up to its end, is not measured.
-fn over(t: Tally, end: usize) -> Tally
-    ensures { (result.at ≡ end) × (result.names ≡ max_entries + 1) }
-{
-    Tally {
-        at: end,
-        entries: t.entries,
-        row: t.row,
-        names: Tally::OVER,
-        size: t.size,
-    }
-}
-
-// A name in full.
-fn name<'a>(
-    first: &'a [u8],
-    second: &'a [u8],
+// A name in full: none where it is one too many.
+fn name(
+    names: &mut Names<'_>,
     s: &[u8],
     side: u64,
-    entries: &mut [u64; SymbolTable::MAX_ENTRIES],
-    links: &mut [u16; Links::SIZE],
     to: &mut [u16; SymbolTable::MAX_ENTRIES],
     plan: &mut [u16; Row::MAX_COUNT],
-    t: Tally,
+    t: &mut Tally,
     h: Header,
-) -> Tally
-    requires { Here first.now second.now s.now side entries.old links.old to.old plan.old t
-        × (Some h ≡ header_of (drop t.at s.now)) × (Code.symbol ≤ h.code) × (h.code ≤ Code.key) }
-    ensures { (zs : List Item) (u : State) → Bundled first.now second.now s.now side zs u
-        → Partway first.now second.now s.now zs u entries.old
-        links.old to.old plan.old t
-        → Onward first.now second.now s.now zs u entries.new
-        links.new to.new plan.new t result }
+) -> Option<()>
+    requires { Here names.old s.now side to.old plan.old t.old
+        × (Some h ≡ header_of (drop t.old.at s.now)) × (Code.symbol ≤ h.code) × (h.code ≤ Code.key) }
+    ensures { (zs : List Item) (u : State) → Bundled names.old s.now side zs u
+        → Partway names.old s.now zs u to.old plan.old t.old
+        → Onward names.old names.new s.now zs u to.new plan.new t.old t.new result }
 {
     let next = t.at + h.size;
     let len = ByteLength::of(h);
@@ -141,111 +116,100 @@ fn name<'a>(
     let kind = kind_of(h.code);
     let p = &s[next..e];
     let key = key_of(kind, p);
-    let n = t.names;
-    match note(first, second, entries, links, n, kind, key, side, next, p) {
+    let n = names.count;
+    match names.note(kind, key, side, next, p) {
         Noted::Known(i) => {
             to[old] = i as u16;
-            referred(plan, t, e, old + 1, i as u16)
+            *t = referred(plan, *t, e, old + 1, i as u16);
         }
         Noted::Entered => {
             to[old] = n as u16;
-            fresh(plan, t, e, shortest_len(h) + (e - next))
+            *t = fresh(plan, *t, e, shortest_len(h) + (e - next));
         }
-        Noted::Full => over(t, s.len()),
+        Noted::Full => return None,
     }
+    Some(())
 }
 
 // The item of a header.
-fn headed<'a>(
-    first: &'a [u8],
-    second: &'a [u8],
+fn headed(
+    names: &mut Names<'_>,
     s: &[u8],
     side: u64,
-    entries: &mut [u64; SymbolTable::MAX_ENTRIES],
-    links: &mut [u16; Links::SIZE],
     to: &mut [u16; SymbolTable::MAX_ENTRIES],
     plan: &mut [u16; Row::MAX_COUNT],
-    t: Tally,
+    t: &mut Tally,
     h: Header,
-) -> Tally
-    requires { Here first.now second.now s.now side entries.old links.old to.old plan.old t
-        × (Some h ≡ header_of (drop t.at s.now)) }
-    ensures { (zs : List Item) (u : State) → Bundled first.now second.now s.now side zs u
-        → Partway first.now second.now s.now zs u entries.old
-        links.old to.old plan.old t
-        → Onward first.now second.now s.now zs u entries.new
-        links.new to.new plan.new t result }
+) -> Option<()>
+    requires { Here names.old s.now side to.old plan.old t.old
+        × (Some h ≡ header_of (drop t.old.at s.now)) }
+    ensures { (zs : List Item) (u : State) → Bundled names.old s.now side zs u
+        → Partway names.old s.now zs u to.old plan.old t.old
+        → Onward names.old names.new s.now zs u to.new plan.new t.old t.new result }
 {
     let next = t.at + h.size;
     let code = h.code;
     if is_number(code) {
-        return after(t, next, t.entries, t.names, shortest_len(h));
+        *t = after(*t, next, t.entries, shortest_len(h));
+        return Some(());
     }
     if Header::REFERENCE <= code {
-        return reference(to, plan, t, next, h.payload);
+        *t = reference(to, plan, *t, next, h.payload);
+        return Some(());
     }
     if Header::SYMBOL <= code {
-        return name(first, second, s, side, entries, links, to, plan, t, h);
+        return name(names, s, side, to, plan, t, h);
     }
     if is_fixed(code, h.sz) {
-        return after(t, next, t.entries, t.names, h.size);
+        *t = after(*t, next, t.entries, h.size);
+        return Some(());
     }
-    held(t, next, shortest_len(h), ByteLength::of(h))
+    *t = held(*t, next, shortest_len(h), ByteLength::of(h));
+    Some(())
 }
 
 // The next item.
-fn item<'a>(
-    first: &'a [u8],
-    second: &'a [u8],
+fn item(
+    names: &mut Names<'_>,
     s: &[u8],
     side: u64,
-    entries: &mut [u64; SymbolTable::MAX_ENTRIES],
-    links: &mut [u16; Links::SIZE],
     to: &mut [u16; SymbolTable::MAX_ENTRIES],
     plan: &mut [u16; Row::MAX_COUNT],
-    t: Tally,
-) -> Tally
-    requires { Here first.now second.now s.now side entries.old links.old to.old plan.old t × (t.at < length s.now) }
-    ensures { (zs : List Item) (u : State) → Bundled first.now second.now s.now side zs u
-        → Partway first.now second.now s.now zs u entries.old
-        links.old to.old plan.old t
-        → Onward first.now second.now s.now zs u entries.new
-        links.new to.new plan.new t result }
+    t: &mut Tally,
+) -> Option<()>
+    requires { Here names.old s.now side to.old plan.old t.old × (t.old.at < length s.now) }
+    ensures { (zs : List Item) (u : State) → Bundled names.old s.now side zs u
+        → Partway names.old s.now zs u to.old plan.old t.old
+        → Onward names.old names.new s.now zs u to.new plan.new t.old t.new result }
 {
     match header_at(s, t.at) {
         // not in a bundle that reads
-        None => t,
-        Some(h) => headed(first, second, s, side, entries, links, to, plan, t, h),
+        None => None,
+        Some(h) => headed(names, s, side, to, plan, t, h),
     }
 }
 
-// Measures a bundle after what comes before it.
-pub fn measure<'a>(
-    first: &'a [u8],
-    second: &'a [u8],
-    s: &[u8],
+// Measures a bundle, which is one of the texts, after what comes before it: none where it has a name too many.
+pub fn measure(
+    names: &mut Names<'_>,
     side: u64,
-    entries: &mut [u64; SymbolTable::MAX_ENTRIES],
-    links: &mut [u16; Links::SIZE],
     plan: &mut [u16; Row::MAX_COUNT],
     from: Tally,
-) -> Tally
-    requires { Ready first.now second.now s.now side entries.old links.old plan.old from }
-    ensures { (zs : List Item) (u : State)
-        → Begun first.now second.now s.now side zs u entries.old
-        links.old plan.old from
-        → Measures first.now second.now zs u entries.new links.new plan.new result }
+) -> Option<Tally>
+    requires { Ready names.old side plan.old from }
+    ensures { (zs : List Item) (u : State) → Begun names.old side zs u plan.old from
+        → Measures names.old names.new zs u plan.new result }
 {
+    let s = names.text(side);
     let mut to = [0u16; SymbolTable::MAX_ENTRIES];
     let mut t = Tally {
         at: 0,
         entries: 0,
         row: from.row,
-        names: from.names,
         size: from.size,
     };
     while t.at < s.len() {
-        t = item(first, second, s, side, entries, links, &mut to, plan, t);
+        item(names, s, side, &mut to, plan, &mut t)?;
     }
-    t
+    Some(t)
 }

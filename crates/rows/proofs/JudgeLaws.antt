@@ -27,7 +27,8 @@ use Rattle.format.specs.Limits.{max_depth, max_entries, max_item, max_rows}
 use Rattle.rows.specs.Plan.{plan_size}
 use Rattle.format.proofs.Tests.{cases, eqb_yes, eqb_no, leb_no, ltb_yes, ltb_no, and_no_left, and_no_right, pick_yes, pick_no, applied_none}
 use Rattle.format.proofs.Names.{noted-plain}
-use Rattle.symbols.proofs.ChainLaws.{length-names}
+use Rattle.symbols.specs.declared.names.Names.{Names}
+use Rattle.symbols.proofs.ChainLaws.{length_names}
 use Rattle.format.proofs.Lists.{map-append, all_append}
 use Rattle.rows.specs.declared.state.State.{State}
 use Rattle.rows.specs.Stack.{bottom, Stands}
@@ -93,32 +94,33 @@ module _ (text : List ℕ) (p : Progress) (r : Row) where
     unfolding row_rules rule
     passed = (applied_none (row_rules text p r) e).0
 
-module _ {text es links st plan : List ℕ} {xs : List Row} {s : State} (a : After text es links st plan xs s) (r : Row) where
+module _ {text : List ℕ} {names : Names} {st plan : List ℕ} {xs : List Row} {s : State} (a : After text names st plan xs s) (r : Row) where
   -- it is refused, whatever became of the tables
-  pub refuse_next : {es' links' st' plan' : List ℕ} (e : Error) {t : State} {q : Answer Unit} → q ≡ fail e s.row
-      → first (row_rules text a.progress r) ≡ Some (failure e a.progress.row) → Next text es' links' st' plan' xs r s t q
+  pub refuse_next : {names' : Names} {st' plan' : List ℕ} (e : Error) {t : State} {q : Answer Unit} → q ≡ fail e s.row
+      → first (row_rules text a.progress r) ≡ Some (failure e a.progress.row) → Next text names' st' plan' xs r s t q
   unfolding fail
   refuse_next e q rules =
       rw q
       (refused (λ rest. a.run (r ∷ rest) ∙ judged_bad text a.progress r _ (rules ∙ ap (λ (n : ℕ). Some (failure e n)) a.row) rest))
 
   -- for a text that is not UTF-8, at an offset in the text
-  pub refuse_text_next : {es' links' st' plan' part : List ℕ} {t : State} {f : Failure} → part ≡ content_of text r
+  pub refuse_text_next : {names' : Names} {st' plan' part : List ℕ} {t : State} {f : Failure} → part ≡ content_of text r
       → f ≡ failure_beside InvalidUtf8 (r.start + bad_at part) s.row
-      → first (row_rules text a.progress r) ≡ bad_text text r a.progress.row → Next text es' links' st' plan' xs r s t (Err f)
+      → first (row_rules text a.progress r) ≡ bad_text text r a.progress.row → Next text names' st' plan' xs r s t (Err f)
   refuse_text_next e q rules =
       rw (q, e) (refused (λ rest. a.run (r ∷ rest) ∙ judged_bad text a.progress r _ (rules ∙ ap (bad_text text r) a.row) rest))
 
   -- it is taken
-  pub take_next : {es' links' st' plan' : List ℕ} (t : State) → first (row_rules text a.progress r) ≡ None
+  pub take_next : {names' : Names} {st' plan' : List ℕ} (t : State) → names'.first.now ≡ text → first (row_rules text a.progress r) ≡ None
       → t.row ≡ s.row + 1 → t.size ≤ s.size + max_item
       → Stands st' t.depth t.left t.keyed t.row (moved a.progress.place (item_at text r))
-      → Measured plan_size text text es' links' plan' (a.progress.items ++ (item_at text r ∷ [])) t.names t.size
-      → Next text es' links' st' plan' xs r s t (Ok tt)
+      → Measured plan_size names' plan' (a.progress.items ++ (item_at text r ∷ [])) t.size
+      → Next text names' st' plan' xs r s t (Ok tt)
   unfolding with_item
-  take_next t rules er small stands measured =
+  take_next t over rules er small stands measured =
       taken
       (record {
+        over = over;
         progress = with_item a.progress x;
         run = λ rest. ap (judge text begin) (append_assoc xs (r ∷ []) rest) ∙ a.run (r ∷ rest)
             ∙ judged_good text a.progress r rules rest;
@@ -137,9 +139,9 @@ module _ {text es links st plan : List ℕ} {xs : List Row} {s : State} (a : Aft
       x = item_at text r
 
 -- The same for an equal row.
-pub next_row : {text es links st plan : List ℕ} {xs : List Row} {q r : Row} {s t : State} {a : Answer Unit} → q ≡ r
-    → Next text es links st plan xs q s t a → Next text es links st plan xs r s t a
-next_row {text} {es} {links} {st} {plan} {xs} {q} {r} {s} {t} {a} e = subst (λ (z : Row). Next text es links st plan xs z s t a) e
+pub next_row : {text : List ℕ} {names : Names} {st plan : List ℕ} {xs : List Row} {q r : Row} {s t : State} {a : Answer Unit} → q ≡ r
+    → Next text names st plan xs q s t a → Next text names st plan xs r s t a
+next_row {text} {names} {st} {plan} {xs} {q} {r} {s} {t} {a} e = subst (λ (z : Row). Next text names st plan xs z s t a) e
 
 -- A state that is ready takes one item more.
 pub ready_more : {text st : List ℕ} {s : State} → Ready text st s → (n : ℕ) → n ≤ max_item
@@ -147,43 +149,43 @@ pub ready_more : {text st : List ℕ} {s : State} → Ready text st s → (n : �
     × (s.size + n < 2 ^ 64)
 ready_more w n l = (w.stack, w.deep, w.top, omega (arith, w.row), omega (arith, w.small, w.row))
 
-module _ {text es links st plan : List ℕ} {xs : List Row} {s : State} (a : After text es links st plan xs s) (r : Row) where
-  pub value-next : {es' links' plan' : List ℕ} (c n : ℕ) {t : State} → t ≡ valued st s c n → s.row < max_rows → n ≤ max_item
+module _ {text : List ℕ} {names : Names} {st plan : List ℕ} {xs : List Row} {s : State} (a : After text names st plan xs s) (r : Row) where
+  pub value-next : {names' : Names} {plan' : List ℕ} (n : ℕ) {t : State} → names'.first.now ≡ text → t ≡ valued st s n → s.row < max_rows → n ≤ max_item
       → first (row_rules text a.progress r) ≡ None → is_key (item_at text r) ≡ false → is_container (item_at text r)
       && ltb 0 r.number ≡ false
-      → Measured plan_size text text es' links' plan' (a.progress.items ++ (item_at text r ∷ [])) c (s.size + n)
-      → Next text es' links' st plan' xs r s t (Ok tt)
+      → Measured plan_size names' plan' (a.progress.items ++ (item_at text r ∷ [])) (s.size + n)
+      → Next text names' st plan' xs r s t (Ok tt)
   unfolding valued item_at
-  value-next c n e lt l rules key box m = rw e (take_next a r (valued st s c n) rules refl (omega arith)
+  value-next n over e lt l rules key box m = rw e (take_next a r (valued st s n) over rules refl (omega arith)
       (stands-value a.stands (item_at text r) lt key box) m)
 
-  pub named-next : {es' links' plan' : List ℕ} (c n : ℕ) {t : State} → t ≡ named_by st s r.kind c n
+  pub named-next : {names' : Names} {plan' : List ℕ} (n : ℕ) {t : State} → names'.first.now ≡ text → t ≡ named_by st s r.kind n
       → s.row < max_rows → n ≤ max_item → r.kind ≢ Kind.container
       → first (row_rules text a.progress r) ≡ None
-      → Measured plan_size text text es' links' plan' (a.progress.items ++ (item_at text r ∷ [])) c (s.size + n)
-      → Next text es' links' st plan' xs r s t (Ok tt)
+      → Measured plan_size names' plan' (a.progress.items ++ (item_at text r ∷ [])) (s.size + n)
+      → Next text names' st plan' xs r s t (Ok tt)
   unfolding named_by keyed_by item_at is_key is_container
-  named-next c n e lt l box rules m =
+  named-next n over e lt l box rules m =
       cases (eqb r.kind Kind.key)
-      (λ k. rw (e ∙ pick_yes _ _ k) (take_next a r (keyed_by s c n) rules refl (omega arith)
+      (λ k. rw (e ∙ pick_yes _ _ k) (take_next a r (keyed_by s n) over rules refl (omega arith)
       (stands-key a.stands (item_at text r) k) m))
-      (λ k. value-next c n (e ∙ pick_no _ _ k) lt l rules k (and_no_left _ (eqb_no box)) m)
+      (λ k. value-next n over (e ∙ pick_no _ _ k) lt l rules k (and_no_left _ (eqb_no box)) m)
 
   pub open_next : (n : ℕ) {st' : List ℕ} {t : State} → t ≡ opened_by s r.number n → st' ≡ set st s.depth s.left
       → s.depth < max_depth → n ≤ max_item
       → first (row_rules text a.progress r) ≡ None → is_key (item_at text r) ≡ false → is_container (item_at text r)
       && ltb 0 r.number ≡ true
-      → Measured plan_size text text es links plan (a.progress.items ++ (item_at text r ∷ [])) s.names (s.size + n)
-      → Next text es links st' plan xs r s t (Ok tt)
+      → Measured plan_size names plan (a.progress.items ++ (item_at text r ∷ [])) (s.size + n)
+      → Next text names st' plan xs r s t (Ok tt)
   unfolding opened_by item_at
   open_next n e f lt l rules key box m = rw (e, f)
-      (take_next a r (opened_by s r.number n) rules refl (omega arith)
+      (take_next a r (opened_by s r.number n) a.over rules refl (omega arith)
       (stands_open a.stands (item_at text r) key box lt) m)
 
   -- ---- what the rules ask
 
-  pub names-count : length a.progress.names ≡ s.names
-  names-count = ap length (a.names ∙ sym a.measured.names) ∙ length-names a.measured.table.table
+  pub names-count : length a.progress.names ≡ names.count
+  names-count = ap length (a.names ∙ sym a.measured.names) ∙ length_names names
 
   pub items-count : length a.progress.items ≡ s.row
   items-count = ap length a.items ∙ length-map xs (item_at text) ∙ a.rows
@@ -220,8 +222,8 @@ module _ {text es links st plan : List ℕ} {xs : List Row} {s : State} (a : Aft
     no_name = leb_no lo
 
     pub few-names : length (noted (item_at text r) a.progress.names) ≤ max_entries
-    few-names = omega (arith, ap length (noted-plain (item_at text r) a.progress.names no_name), names-count, a.measured.table.table.few)
+    few-names = omega (arith, ap length (noted-plain (item_at text r) a.progress.names no_name), names-count, names.chained.table.few)
 
     pub measured-plain : (n : ℕ) → s.row < max_rows → n ≡ length (full (item_at text r))
-        → Measured plan_size text text es links plan (a.progress.items ++ (item_at text r ∷ [])) s.names (s.size + n)
+        → Measured plan_size names plan (a.progress.items ++ (item_at text r ∷ [])) (s.size + n)
     measured-plain n lt e = measure_plain a.measured (item_at text r) (omega (arith, items-count)) n no_name e

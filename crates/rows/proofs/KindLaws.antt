@@ -28,6 +28,7 @@ use Rattle.rows.specs.declared.state.State.{State}
 use Rattle.rows.specs.Judging.{After}
 use Rattle.encoder.proofs.Lengths.{header-most, length-sized}
 use Rattle.rows.proofs.RowLaws.{content-kinds, bad-content, bad-plain, number-other, inside, content-length}
+use Rattle.symbols.specs.declared.names.Names.{Names}
 use Rattle.encoder.proofs.MeasureLaws.{known-text}
 use Rattle.rows.proofs.JudgeLaws.{bad_text, rule_5, rule_6, rule_3, rule_8, rule-none, names-count, keys_are, depth_is, no_keys, few-names}
 
@@ -50,7 +51,7 @@ module _ (text : List ℕ) (r : Row) (h : has_content r.kind ≡ true) where
 
 -- ---- no name
 
-module _ {text es links st plan : List ℕ} {xs : List Row} {s : State} (a : After text es links st plan xs s) (r : Row)
+module _ {text : List ℕ} {names : Names} {st plan : List ℕ} {xs : List Row} {s : State} (a : After text names st plan xs s) (r : Row)
     (lo : r.kind < Kind.symbol) (fine : is_bad text r ≡ false) where
   text-is : is_text (item_at text r) ≡ eqb r.kind Kind.string
   unfolding item_at is_text
@@ -105,7 +106,7 @@ module _ (text : List ℕ) (n : ℕ) where
 
 -- ---- names
 
-module _ {text es links st plan : List ℕ} {xs : List Row} {s : State} (a : After text es links st plan xs s) (r : Row)
+module _ {text : List ℕ} {names : Names} {st plan : List ℕ} {xs : List Row} {s : State} (a : After text names st plan xs s) (r : Row)
     (name : Kind.symbol ≤ r.kind) (fine : is_bad text r ≡ false) where
   pub is_name_lem : is_name (item_at text r) ≡ true
   unfolding item_at is_name
@@ -137,14 +138,14 @@ module _ {text es links st plan : List ℕ} {xs : List Row} {s : State} (a : Aft
     unfolding item_at
     known-none i e =
         rule-none text a.progress r fine (keys_are a r ∙ alone) name_flat (good-text (known-text a.measured (item_at text r) i e))
-        (omega (arith, ap length (noted-known (item_at text r) a.progress.names (ap (index (item_at text r)) a.names ∙ e)), names-count a r, a.measured.table.table.few))
+        (omega (arith, ap length (noted-known (item_at text r) a.progress.names (ap (index (item_at text r)) a.names ∙ e)), names-count a r, names.chained.table.few))
 
     module _ (e : index (item_at text r) (names_from [] a.progress.items) ≡ None) (u : utf8 (content_of text r) ≡ true) where
-      more : length (noted (item_at text r) a.progress.names) ≡ s.names + 1
+      more : length (noted (item_at text r) a.progress.names) ≡ names.count + 1
       more = omega (arith, ap length (noted-fresh (item_at text r) a.progress.names is_name_lem (ap (index (item_at text r)) a.names ∙ e)), length-append a.progress.names (item_at text r ∷ []), names-count a r)
 
-      pub fresh-full : max_entries ≤ s.names → first (row_rules text a.progress r) ≡ Some (failure TooManyEntries a.progress.row)
+      pub fresh-full : max_entries ≤ names.count → first (row_rules text a.progress r) ≡ Some (failure TooManyEntries a.progress.row)
       fresh-full l = rule_8 text a.progress r fine (keys_are a r ∙ alone) name_flat (good-text u) (omega (arith, more))
 
-      pub fresh-none : s.names < max_entries → first (row_rules text a.progress r) ≡ None
+      pub fresh-none : names.count < max_entries → first (row_rules text a.progress r) ≡ None
       fresh-none l = rule-none text a.progress r fine (keys_are a r ∙ alone) name_flat (good-text u) (omega (arith, more))

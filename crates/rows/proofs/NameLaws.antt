@@ -13,20 +13,20 @@ use Rattle.format.specs.Kind as Kind
 use Rattle.format.specs.Header.{header}
 use Rattle.format.specs.Utf8.{utf8}
 use Rattle.format.specs.Item.{Item, has_content}
-use Rattle.format.specs.Names.{same_name, index, names_from}
+use Rattle.format.specs.Names.{index, names_from}
 use Rattle.format.specs.Rows.{content_of, item_at}
 use Rattle.format.specs.Writing.{is_bad}
 use Rattle.format.specs.Limits.{max_bytes, max_rows}
 use Rattle.encoder.specs.Plan.{no_index}
-use Rattle.format.proofs.Names.{item_path, same_name_refl}
-use Rattle.symbols.specs.Entry.{part_in, name, name_in, names_in, Part}
-use Rattle.symbols.specs.Chains.{Chained}
-use Rattle.symbols.specs.Noting.{Entered}
-use Rattle.symbols.proofs.EntryLaws.{side_both}
-use Rattle.symbols.proofs.ChainLaws.{index_some, same_via, count-le}
+use Rattle.format.proofs.Names.{item_path}
+use Rattle.symbols.specs.Entry.{name, side_of, Part}
+use Rattle.symbols.specs.Entries.{part_of}
+use Rattle.symbols.specs.declared.names.Names.{Names}
+use Rattle.symbols.specs.Names.{Entered, names_of}
+use Rattle.symbols.proofs.EntryLaws.{side_first}
 use Rattle.rows.specs.declared.state.State.{State}
 use Rattle.rows.specs.Steps.{named_by}
-use Rattle.rows.specs.Names.{Placed, Naming}
+use Rattle.rows.specs.Names.{Naming}
 use Rattle.rows.specs.Judging.{After, Ready, Next}
 use Rattle.encoder.proofs.Lengths.{header-most}
 use Rattle.rows.proofs.RowLaws.{content-text, kind-most, inside, content_part, content-length}
@@ -52,8 +52,10 @@ module _ (text : List ℕ) (r : Row) (lo : Kind.symbol ≤ r.kind) (fine : is_ba
       ∙ ap (λ n. take n (drop r.start text)) (sym (content-length text r fine has_content_lem))
 
   -- where its bytes stand
-  pub name-stands : {part : List ℕ} → length text ≤ max_bytes → part ≡ content_of text r → Part text text r.kind 0 r.start part
-  name-stands short e =
+  pub name-stands : (names : Names) {part : List ℕ} → names.first.now ≡ text → length text ≤ max_bytes → part ≡ content_of text r
+      → Part names.first.now names.second.now r.kind 0 r.start part
+  name-stands names over short e =
+      let side : side_of 0 names.first.now names.second.now ≡ text = side_first 0 names.first.now names.second.now refl ∙ over in
       rw e
       (record {
         low = lo;
@@ -61,67 +63,55 @@ module _ (text : List ℕ) (r : Row) (lo : Kind.symbol ≤ r.kind) (fine : is_ba
         sides = omega arith;
         short = omega (arith, name-inside);
         near = omega (arith, name-inside);
-        inside = rw (side_both 0 text) name-inside;
-        is = rw (side_both 0 text) name_part;
+        inside = rw side name-inside;
+        is = rw side name_part;
       })
 
-  -- a guess that is right
-  module _ {es links : List ℕ} {count g : ℕ} (ch : Chained text text es links count)
-      (p : Placed es count g r.kind r.start r.number) where
-    guessed_name : name_in text text (get_or es g 0) ≡ item_at text r
-    unfolding name_in part_in item_at
-    guessed_name =
-        item_path p.there.kind_is p.there.length_is
-        (rw (p.there.length_is, p.there.start_is, side_both _ text) (content_part text r fine has_content_lem))
-
-    pub guessed : index (item_at text r) (names_in text text (take count es)) ≡ Some g
-    guessed =
-        let h : same_name (item_at text r) (name_in text text (get_or es g 0)) ≡ true = rw guessed_name (same_name_refl (item_at text r)) in
-        index_some text text es count (item_at text r) (count-le ch.table) g p.known h
-        (λ j l. same_via (item_at text r) (name_in text text (get_or es g 0)) (name_in text text (get_or es j 0)) h ∙ ch.unlike g j p.known l)
+  -- the row's part of the text is its name
+  pub part_item : item_at text r ≡ (part_of text r.kind r.start r.number).item
+  unfolding item_at
+  part_item = item_path refl refl (sym (content_part text r fine has_content_lem))
 
 -- ---- one name more
 
-module _ {text es links st plan : List ℕ} {xs : List Row} {s : State} (a : After text es links st plan xs s) (r : Row)
+module _ {text : List ℕ} {names : Names} {st plan : List ℕ} {xs : List Row} {s : State} (a : After text names st plan xs s) (r : Row)
     (w : Naming text s r) (ready : Ready text st s) where
   -- the search is in the names of the items
-  pub among : {o : Option ℕ} → index (item_at text r) (names_in text text (take s.names es)) ≡ o
+  pub among : {o : Option ℕ} → index (item_at text r) (names_of names) ≡ o
       → index (item_at text r) (names_from [] a.progress.items) ≡ o
   among e = ap (index (item_at text r)) (sym a.measured.names) ∙ e
 
   -- and it is by the bytes
-  pub looked_up : {part : List ℕ} {o : Option ℕ} → part ≡ content_of text r
-      → index (name r.kind part) (names_in text text (take s.names es)) ≡ o
-      → index (item_at text r) (names_in text text (take s.names es)) ≡ o
-  looked_up e f = ap (λ (x : Item). index x (names_in text text (take s.names es)))
-      (name-is text r w.name w.fine ∙ ap (name r.kind) (sym e)) ∙ f
+  pub looked_up : {part : List ℕ} {o : Option ℕ} → part ≡ content_of text r → index (name r.kind part) (names_of names) ≡ o
+      → index (item_at text r) (names_of names) ≡ o
+  looked_up e f = ap (λ (x : Item). index x (names_of names)) (name-is text r w.name w.fine ∙ ap (name r.kind) (sym e)) ∙ f
 
   pub known_next : {plan' : List ℕ} (i : ℕ) {t : State} → i < 2 ^ 64
-      → index (item_at text r) (names_in text text (take s.names es)) ≡ Some i
-      → t ≡ named_by st s r.kind s.names (length (header Code.reference i)) → plan' ≡ set plan s.row i
-      → Next text es links st plan' xs r s t (Ok tt)
+      → index (item_at text r) (names_of names) ≡ Some i
+      → t ≡ named_by st s r.kind (length (header Code.reference i)) → plan' ≡ set plan s.row i
+      → Next text names st plan' xs r s t (Ok tt)
   known_next i l e et ep =
       rw ep
-      (named-next a r s.names (length (header Code.reference i)) et ready.row (omega (arith, header-most 7 i l))
+      (named-next a r (length (header Code.reference i)) a.over et ready.row (omega (arith, header-most 7 i l))
       (λ q. omega (arith, w.name))
       (known-none a r w.name w.fine w.alone i (among e))
       (rw (← items-count a r) (measure_known a.measured (item_at text r) (omega (arith, items-count a r, ready.row))
       i (length (header Code.reference i)) (is_name_lem a r w.name w.fine) (among e) refl)))
 
-  pub fresh-next : {es' links' plan' part : List ℕ} (g v : ℕ) {t : State} → part ≡ content_of text r → utf8 (content_of text r) ≡ true
-      → Entered text text es es' links' s.names (name r.kind part) r.start
-      → t ≡ named_by st s r.kind (s.names + 1) (length (header (r.kind - Kind.bytes) r.number) + r.number)
-      → plan' ≡ set (set plan (max_rows + g) v) s.row no_index → Next text es' links' st plan' xs r s t (Ok tt)
+  pub fresh-next : {names' : Names} {plan' part : List ℕ} (g v : ℕ) {t : State} → part ≡ content_of text r → utf8 (content_of text r) ≡ true
+      → Entered names names' (name r.kind part) r.start
+      → t ≡ named_by st s r.kind (length (header (r.kind - Kind.bytes) r.number) + r.number)
+      → plan' ≡ set (set plan (max_rows + g) v) s.row no_index → Next text names' st plan' xs r s t (Ok tt)
   unfolding item_at
-  fresh-next g v e u n et ep =
+  fresh-next {part} g v e u n et ep =
+      let is : name r.kind part ≡ item_at text r = ap (name r.kind) e ∙ sym (name-is text r w.name w.fine) in
       rw ep
-      (named-next a r (s.names + 1) (m + r.number) et ready.row
+      (named-next a r (m + r.number) (n.grown.first ∙ a.over) et ready.row
       (content-small text r hc w.fine ready.short m refl) (λ q. omega (arith, w.name))
-      (fresh-none a r w.name w.fine w.alone new-name u n.room)
-      (measure_fresh a.measured (item_at text r) (omega (arith, count, ready.row)) _ _
-      (set (set plan (max_rows + g) v) s.row no_index) n.entry (m + r.number)
-      (is_name_lem a r w.name w.fine) new-name u (content-full text r hc w.fine m refl) n.chained n.stored
-      (n.named ∙ ap (name r.kind) e ∙ sym (name-is text r w.name w.fine))
+      (fresh-none a r w.name w.fine w.alone new-name u n.grown.room)
+      (measure_fresh a.measured (item_at text r) (omega (arith, count, ready.row))
+      (set (set plan (max_rows + g) v) s.row no_index) (m + r.number)
+      (is_name_lem a r w.name w.fine) (rw is at n) u (content-full text r hc w.fine m refl)
       (length-set (set plan (max_rows + g) v) s.row no_index ∙ length-set plan (max_rows + g) v ∙ a.measured.plan_size) old new))
     where
       m : ℕ

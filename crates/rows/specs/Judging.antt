@@ -11,10 +11,12 @@ use Rattle.format.specs.Writing.{Progress, begin, is_bad, judge}
 use Rattle.rows.specs.declared.state.State.{State}
 use Rattle.rows.specs.Plan.{plan_size}
 use Rattle.rows.specs.Stack.{bottom, Stands}
+use Rattle.symbols.specs.declared.names.Names.{Names}
 use Rattle.encoder.specs.Plan.{Measured}
 
--- The rows xs were taken, and s is the state after them.
-pub record After (text es links st plan : List ℕ) (xs : List Row) (s : State) : Type 0 where
+-- The rows xs over a text were taken, with a table of their names, and s is the state after them.
+pub record After (text : List ℕ) (table : Names) (st plan : List ℕ) (xs : List Row) (s : State) : Type 0 where
+  pub over : table.first.now ≡ text
   pub progress : Progress
   pub run : (rest : List Row) → judge text begin (xs ++ rest) ≡ judge text progress rest
   pub fine : All (λ (r : Row). is_bad text r ≡ false) xs
@@ -24,7 +26,7 @@ pub record After (text es links st plan : List ℕ) (xs : List Row) (s : State) 
   pub rows : length xs ≡ s.row
   pub small : s.size ≤ s.row * max_item
   pub stands : Stands st s.depth s.left s.keyed s.row progress.place
-  pub measured : Measured plan_size text text es links plan progress.items s.names s.size
+  pub measured : Measured plan_size table plan progress.items s.size
 
 -- What a state is good for: one row more.
 pub record Ready (text st : List ℕ) (s : State) : Type 0 where
@@ -36,7 +38,7 @@ pub record Ready (text st : List ℕ) (s : State) : Type 0 where
   pub top : 2 ≤ bottom st s.depth s.left
 
 -- One row more, from the state s to t: taken, or refused whatever follows.
-pub data Next (text es links st plan : List ℕ) (xs : List Row) (r : Row) (s t : State) : Answer Unit → Type 0 where
-  taken : After text es links st plan (xs ++ (r ∷ [])) t → t.row ≡ s.row + 1 → Next text es links st plan xs r s t (Ok tt)
+pub data Next (text : List ℕ) (names : Names) (st plan : List ℕ) (xs : List Row) (r : Row) (s t : State) : Answer Unit → Type 0 where
+  taken : After text names st plan (xs ++ (r ∷ [])) t → t.row ≡ s.row + 1 → Next text names st plan xs r s t (Ok tt)
   refused : {f : Failure} → ((rest : List Row) → judge text begin (xs ++ (r ∷ rest)) ≡ Err f)
-      → Next text es links st plan xs r s t (Err f)
+      → Next text names st plan xs r s t (Err f)

@@ -5,20 +5,20 @@ ghost use Rattle.format.specs.Kind as Kind;
 ghost use Rattle.format.specs.Code as Code;
 ghost use Rattle.format.specs.Limits.{max_bytes, max_entries, max_kind};
 ghost use Rattle.format.specs.Header.{header};
-ghost use Rattle.symbols.specs.Chains.{Chained};
 ghost use Rattle.encoder.specs.Plan.{no_index};
 ghost use Rattle.rows.specs.Plan.{plan_size, guess_at};
 ghost use Rattle.rows.specs.Judging.{After, Next, Ready};
-ghost use Rattle.rows.specs.Names.{Placed, Naming};
+ghost use Rattle.rows.specs.Names.{Naming};
 ghost use Rattle.rows.specs.Steps.{named_by};
 
 use crate::item::{content, outside};
 use crate::place::named;
 use crate::state::{State, invalid_text};
 use encoder::putting::Reference;
-use format::{Bundle, Error, Failure, Header, Row, SymbolTable, fail};
-use symbols::entry::{is_part, key_of};
-use symbols::lookup::{Links, Noted, note};
+use format::{Bundle, Error, Failure, Header, Row, fail};
+use symbols::entry::key_of;
+use symbols::lookup::Noted;
+use symbols::names::Names;
 use utf8::is_utf8;
 use wire::header::{code_of, header_len};
 use wire::rules::key_after_key;
@@ -47,26 +47,6 @@ fn is_bad(len: usize, row: Row) -> bool
     outside(len, row.start, row.number)
 }
 
-// Does an entry stand for this part of the text?
-fn is_entry(
-    entries: &[u64; SymbolTable::MAX_ENTRIES],
-    names: usize,
-    guess: u16,
-    kind: u8,
-    start: usize,
-    number: u64,
-) -> bool
-    requires { (length entries.now ≡ max_entries) × (names ≤ max_entries) × (Kind.symbol ≤ kind) × (kind ≤ Kind.key)
-        × (start ≤ max_bytes) × (number ≤ max_bytes) }
-    ensures { result ≡ true → Placed entries.now names guess kind start number }
-{
-    let i = guess as usize;
-    if names <= i {
-        return false;
-    }
-    is_part(entries[i], kind, start, number)
-}
-
 // A name that has an entry.
 fn known(
     stack: &[u64; Bundle::MAX_DEPTH],
@@ -76,66 +56,59 @@ fn known(
     i: u16,
 )
     requires { ((text : List ℕ) × Ready text stack.now s.old) × (length plan.old ≡ plan_size) }
-    ensures state { s.new ≡ named_by stack.now s.old kind s.old.names (length (header Code.reference i)) }
+    ensures state { s.new ≡ named_by stack.now s.old kind (length (header Code.reference i)) }
     ensures planned { plan.new ≡ set plan.old s.old.row i }
 {
     let row = s.row;
     plan[row] = i;
-    let names = s.names;
-    named(
-        stack,
-        s,
-        kind,
-        names,
-        header_len(Header::REFERENCE, i as u64),
-    );
+    named(stack, s, kind, header_len(Header::REFERENCE, i as u64));
 }
 
-// A name that is entered now: the guess for its place in the text, and that it stands in full.
-fn fresh(stack: &[u64; Bundle::MAX_DEPTH], plan: &mut [u16; Plan::SIZE], s: &mut State, row: Row)
+// A name that is entered now after so many: the guess for its place in the text, and that it stands in full.
+fn fresh(
+    stack: &[u64; Bundle::MAX_DEPTH],
+    plan: &mut [u16; Plan::SIZE],
+    s: &mut State,
+    row: Row,
+    names: usize,
+)
     requires { ((text : List ℕ) × Ready text stack.now s.old) × (length plan.old ≡ plan_size)
-        × (s.old.names < max_entries) × (Kind.symbol ≤ row.kind) × (row.kind ≤ Kind.key) × (row.number ≤ max_bytes) }
-    ensures state { s.new ≡ named_by stack.now s.old row.kind (s.old.names + 1)
+        × (names < max_entries) × (Kind.symbol ≤ row.kind) × (row.kind ≤ Kind.key) × (row.number ≤ max_bytes) }
+    ensures state { s.new ≡ named_by stack.now s.old row.kind
         (length (header (row.kind - Kind.bytes) row.number) + row.number) }
-    ensures planned { plan.new ≡ set (set plan.old (guess_at row.start) s.old.names) s.old.row no_index }
+    ensures planned { plan.new ≡ set (set plan.old (guess_at row.start) names) s.old.row no_index }
 {
-    let names = s.names;
     let at = s.row;
     let start = row.start;
     let number = row.number;
     plan[Plan::GUESSES + start % Plan::MODULUS] = names as u16;
     plan[at] = Reference::FULL;
     let n = header_len(code_of(row.kind), number) + number as usize;
-    named(stack, s, row.kind, names + 1, n);
+    named(stack, s, row.kind, n);
 }
 
 // A name that no guess finds.
 fn looked_up(
-    text: &[u8],
-    entries: &mut [u64; SymbolTable::MAX_ENTRIES],
-    links: &mut [u16; Links::SIZE],
+    names: &mut Names<'_>,
     stack: &[u64; Bundle::MAX_DEPTH],
     plan: &mut [u16; Plan::SIZE],
     s: &mut State,
     row: Row,
 ) -> Result<(), Failure>
-    requires { Ready text.now stack.now s.old × Naming text.now s.old row
-        × Chained text.now text.now entries.old links.old s.old.names × (length plan.old ≡ plan_size) }
-    ensures { (xs : List Row) → After text.now entries.old links.old
-        stack.now plan.old xs s.old
-        → Next text.now entries.new links.new stack.now plan.new xs row s.old s.new result }
+    requires { Ready names.old.first.now stack.now s.old × Naming names.old.first.now s.old row × (length plan.old ≡ plan_size) }
+    ensures { (xs : List Row) → After names.old.first.now names.old stack.now plan.old xs s.old
+        → Next names.old.first.now names.new stack.now plan.new xs row s.old s.new result }
 {
-    let part = content(text, row);
+    let part = content(names.first, row);
     if !is_utf8(part) {
         return Err(invalid_text(s.row, row.start, part));
     }
     let kind = row.kind;
     let key = key_of(kind, part);
-    let names = s.names;
-    let start = row.start;
-    match note(text, text, entries, links, names, kind, key, 0, start, part) {
+    let n = names.count;
+    match names.note(kind, key, 0, row.start, part) {
         Noted::Known(i) => known(stack, plan, s, kind, i as u16),
-        Noted::Entered => fresh(stack, plan, s, row),
+        Noted::Entered => fresh(stack, plan, s, row, n),
         Noted::Full => return fail(Error::TooManyEntries, s.row),
     }
     Ok(())
@@ -143,21 +116,17 @@ fn looked_up(
 
 // A symbol or a key.
 pub fn name_row(
-    text: &[u8],
-    entries: &mut [u64; SymbolTable::MAX_ENTRIES],
-    links: &mut [u16; Links::SIZE],
+    names: &mut Names<'_>,
     stack: &[u64; Bundle::MAX_DEPTH],
     plan: &mut [u16; Plan::SIZE],
     s: &mut State,
     row: Row,
 ) -> Result<(), Failure>
-    requires { Ready text.now stack.now s.old × (Kind.symbol ≤ row.kind)
-        × Chained text.now text.now entries.old links.old s.old.names × (length plan.old ≡ plan_size) }
-    ensures { (xs : List Row) → After text.now entries.old links.old
-        stack.now plan.old xs s.old
-        → Next text.now entries.new links.new stack.now plan.new xs row s.old s.new result }
+    requires { Ready names.old.first.now stack.now s.old × (Kind.symbol ≤ row.kind) × (length plan.old ≡ plan_size) }
+    ensures { (xs : List Row) → After names.old.first.now names.old stack.now plan.old xs s.old
+        → Next names.old.first.now names.new stack.now plan.new xs row s.old s.new result }
 {
-    if is_bad(text.len(), row) {
+    if is_bad(names.first.len(), row) {
         return fail(Error::InvalidRow, s.row);
     }
     let kind = row.kind;
@@ -166,9 +135,9 @@ pub fn name_row(
     }
     let start = row.start;
     let guess = plan[Plan::GUESSES + start % Plan::MODULUS];
-    if is_entry(entries, s.names, guess, kind, start, row.number) {
+    if names.is_part(guess as usize, kind, start, row.number) {
         known(stack, plan, s, kind, guess);
         return Ok(());
     }
-    looked_up(text, entries, links, stack, plan, s, row)
+    looked_up(names, stack, plan, s, row)
 }

@@ -32,10 +32,10 @@ fn close(stack: &[u64; Bundle::MAX_DEPTH], depth: usize, left: u64) -> Level
 }
 
 // After a value of n bytes.
-pub fn value(stack: &[u64; Bundle::MAX_DEPTH], s: &mut State, names: usize, n: usize)
+pub fn value(stack: &[u64; Bundle::MAX_DEPTH], s: &mut State, n: usize)
     requires { (length stack.now ≡ max_depth) × (s.old.depth ≤ max_depth)
         × (2 ≤ bottom stack.now s.old.depth s.old.left) × (s.old.row + 1 < 2 ^ 64) × (s.old.size + n < 2 ^ 64) }
-    ensures { s.new ≡ valued stack.now s.old names n }
+    ensures { s.new ≡ valued stack.now s.old n }
 {
     let to = close(stack, s.depth, s.left);
     *s = State {
@@ -43,16 +43,15 @@ pub fn value(stack: &[u64; Bundle::MAX_DEPTH], s: &mut State, names: usize, n: u
         depth: to.depth,
         left: to.left,
         keyed: 0,
-        names,
         size: s.size + n,
     };
 }
 
 // After a name of n bytes: a key is no value yet.
-pub fn named(stack: &[u64; Bundle::MAX_DEPTH], s: &mut State, kind: u8, names: usize, n: usize)
+pub fn named(stack: &[u64; Bundle::MAX_DEPTH], s: &mut State, kind: u8, n: usize)
     requires { (length stack.now ≡ max_depth) × (s.old.depth ≤ max_depth)
         × (2 ≤ bottom stack.now s.old.depth s.old.left) × (s.old.row + 1 < 2 ^ 64) × (s.old.size + n < 2 ^ 64) }
-    ensures { s.new ≡ named_by stack.now s.old kind names n }
+    ensures { s.new ≡ named_by stack.now s.old kind n }
 {
     if kind == Row::KEY {
         *s = State {
@@ -60,12 +59,11 @@ pub fn named(stack: &[u64; Bundle::MAX_DEPTH], s: &mut State, kind: u8, names: u
             depth: s.depth,
             left: s.left,
             keyed: 1,
-            names,
             size: s.size + n,
         };
         return;
     }
-    value(stack, s, names, n);
+    value(stack, s, n);
 }
 
 // After the header, of n bytes, of a container with fields in it.
@@ -82,7 +80,6 @@ pub fn descend(stack: &mut [u64; Bundle::MAX_DEPTH], s: &mut State, fields: u64,
         depth: depth + 1,
         left: fields,
         keyed: 0,
-        names: s.names,
         size: s.size + n,
     };
 }

@@ -3,7 +3,7 @@ ghost use Rattle.std.specs.Prelude.{◌≡◌, true, false, List, ℕ, ◌<◌, 
 ghost use Rattle.format.specs.declared.row.Row.{Row};
 ghost use Rattle.format.specs.Kind as Kind;
 ghost use Rattle.format.specs.Item.{has_content};
-ghost use Rattle.symbols.specs.Chains.{Chained};
+ghost use Rattle.symbols.specs.declared.names.Names.{Names};
 ghost use Rattle.rows.specs.Plan.{plan_size};
 ghost use Rattle.rows.specs.Judging.{After, Next, Ready};
 
@@ -11,8 +11,8 @@ use crate::item::{bad_number, content, has_content, outside, plain_len};
 use crate::name::{Plan, name_row};
 use crate::place::{descend, value};
 use crate::state::{State, invalid_text};
-use format::{Bundle, Error, Failure, Header, Row, SymbolTable, fail};
-use symbols::lookup::Links;
+use format::{Bundle, Error, Failure, Header, Row, fail};
+use symbols::names::Names;
 use wire::header::{code_of, header_len};
 use wire::rules::bad_text;
 
@@ -24,9 +24,9 @@ fn content_row(
     row: Row,
 ) -> Result<(), Failure>
     requires { Ready text.now stack.now s.old × (row.kind < Kind.symbol) × (has_content row.kind ≡ true) }
-    ensures { (es links plan : List ℕ) (xs : List Row)
-        → After text.now es links stack.now plan xs s.old
-        → Next text.now es links stack.now plan xs row s.old s.new result }
+    ensures { (names : Names) (plan : List ℕ) (xs : List Row)
+        → After text.now names stack.now plan xs s.old
+        → Next text.now names stack.now plan xs row s.old s.new result }
 {
     let number = row.number;
     if outside(text.len(), row.start, number) {
@@ -38,7 +38,7 @@ fn content_row(
         return Err(invalid_text(s.row, row.start, part));
     }
     let n = header_len(code_of(kind), number) + number as usize;
-    value(stack, s, s.names, n);
+    value(stack, s, n);
     Ok(())
 }
 
@@ -49,15 +49,15 @@ fn container_row(
     number: u64,
 ) -> Result<(), Failure>
     requires { (text : List ℕ) × Ready text stack.old s.old }
-    ensures { (text es links plan : List ℕ) (xs : List Row) → After text es links stack.old plan xs s.old
-        → Next text es links stack.new plan xs (record { kind = Kind.container; number = number; start = 0 }) s.old s.new result }
+    ensures { (text : List ℕ) (names : Names) (plan : List ℕ) (xs : List Row) → After text names stack.old plan xs s.old
+        → Next text names stack.new plan xs (record { kind = Kind.container; number = number; start = 0 }) s.old s.new result }
 {
     if Bundle::MAX_DEPTH <= s.depth {
         return fail(Error::TooDeep, s.row);
     }
     let n = header_len(Header::CONTAINER, number);
     if number == 0 {
-        value(stack, s, s.names, n);
+        value(stack, s, n);
         return Ok(());
     }
     descend(stack, s, number, n);
@@ -72,38 +72,34 @@ fn plain_row(
     number: u64,
 ) -> Result<(), Failure>
     requires { ((text : List ℕ) × Ready text stack.now s.old) × (kind < Kind.container) × (has_content kind ≡ false) }
-    ensures { (text es links plan : List ℕ) (xs : List Row) → After text es links stack.now plan xs s.old
-        → Next text es links stack.now plan xs (record { kind = kind; number = number; start = 0 }) s.old s.new result }
+    ensures { (text : List ℕ) (names : Names) (plan : List ℕ) (xs : List Row) → After text names stack.now plan xs s.old
+        → Next text names stack.now plan xs (record { kind = kind; number = number; start = 0 }) s.old s.new result }
 {
     if bad_number(kind, number) {
         return fail(Error::InvalidRow, s.row);
     }
-    value(stack, s, s.names, plain_len(kind, number));
+    value(stack, s, plain_len(kind, number));
     Ok(())
 }
 
 // One row more.
 pub fn step(
-    text: &[u8],
-    entries: &mut [u64; SymbolTable::MAX_ENTRIES],
-    links: &mut [u16; Links::SIZE],
+    names: &mut Names<'_>,
     stack: &mut [u64; Bundle::MAX_DEPTH],
     plan: &mut [u16; Plan::SIZE],
     s: &mut State,
     row: Row,
 ) -> Result<(), Failure>
-    requires { Ready text.now stack.old s.old × Chained text.now text.now entries.old links.old s.old.names
-        × (length plan.old ≡ plan_size) }
-    ensures { (xs : List Row) → After text.now entries.old links.old
-        stack.old plan.old xs s.old
-        → Next text.now entries.new links.new stack.new plan.new xs row s.old s.new result }
+    requires { Ready names.old.first.now stack.old s.old × (length plan.old ≡ plan_size) }
+    ensures { (xs : List Row) → After names.old.first.now names.old stack.old plan.old xs s.old
+        → Next names.old.first.now names.new stack.new plan.new xs row s.old s.new result }
 {
     let kind = row.kind;
     if Row::SYMBOL <= kind {
-        return name_row(text, entries, links, stack, plan, s, row);
+        return name_row(names, stack, plan, s, row);
     }
     if has_content(kind) {
-        return content_row(text, stack, s, row);
+        return content_row(names.first, stack, s, row);
     }
     if 0 < row.start {
         return fail(Error::InvalidRow, s.row);

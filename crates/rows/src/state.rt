@@ -17,8 +17,6 @@ pub struct State {
     pub left: u64,
     // 1 where a key was taken and its value is due
     pub keyed: usize,
-    // different names
-    pub names: usize,
     // bytes of the canonical encoding
     pub size: usize,
 }

@@ -3,22 +3,27 @@ use Rattle.std.specs.Prelude.{None, Some}
 use mathlib.Core.Path.{◌≡◌, refl, ap, sym, ◌∙◌}
 use mathlib.Core.Logic.{◌≢◌}
 use mathlib.Core.Bool.{true, false}
-use mathlib.Core.List.{List, [], ◌∷◌}
+use mathlib.Core.List.{List, [], ◌∷◌, ◌++◌, map}
 use Prim.Native.Nat.{ℕ, zero, suc, ◌+◌, ◌-◌, ◌≤◌, ◌<◌}
 use native.Mathlib.Nat.{add-zero, zero-add}
+use native.Mathlib.Numerals.{add-one}
 use native.Mathlib.Omega.{arith}
-use lib.ListN.{length, take, get_or, set, replicate, length-set, length-replicate, get_or-replicate, length-map}
-use lib.Seq.{get_or-take, length-take-le, get_or-set_same, get_or-set_other}
+use lib.ListN.{length, take, drop, get_or, set, replicate, length-set, length-replicate, get_or-replicate, length-map}
+use lib.Seq.{get_or-take, length-take-le, get_or-set_same, get_or-set_other, take-suc-set}
 use Rattle.format.specs.Item.{Item}
 use Rattle.format.specs.Kind as Kind
 use Rattle.format.specs.Limits.{max_entries}
 use Rattle.format.specs.Names.{same_name, index_from, index}
 use Rattle.format.proofs.Tests.{cases, clash, equal, order, eqb-true, and-true, pick_yes, pick_no, none-some}
-use Rattle.format.proofs.Names.{same_true, index_at}
+use Rattle.format.proofs.Lists.{map-append}
+use Rattle.format.proofs.Names.{same_true, index_at, item_path, same_name_refl}
 use Rattle.format.proofs.Encoding.{at_lt}
-use Rattle.symbols.specs.Entry.{key_of, key_in, buckets, bucket, name, name_in, names_in, Sound}
+use Rattle.symbols.specs.Entry.{key_of, key_in, buckets, bucket, name, name_in, names_in, part_in, Packed, Sound}
+use Rattle.symbols.specs.Entries.{part_of}
 use Rattle.symbols.specs.Chains.{Table, links_size, Chained}
-use Rattle.symbols.proofs.EntryLaws.{other_key}
+use Rattle.symbols.specs.declared.names.Names.{Names}
+use Rattle.symbols.specs.Names.{names_of}
+use Rattle.symbols.proofs.EntryLaws.{other_key, side_first}
 
 -- ---- names
 
@@ -84,6 +89,25 @@ count-le t = omega (arith, t.size, t.few)
 pub length-names : {a b es : List ℕ} {count : ℕ} → Table a b es count → length (names_in a b (take count es)) ≡ count
 unfolding names_in
 length-names {a} {b} {es} {count} t = length-map (take count es) (name_in a b) ∙ length-take-le count es (count-le t)
+
+pub length_names : (t : Names) → length (names_of t) ≡ t.count
+unfolding names_of
+length_names t = length-names t.chained.table
+
+-- An entry with this part of the first text has its name, and no entry before it.
+pub placed : (t : Names) {i kind start len : ℕ} → i < t.count → Packed (get_or t.entries i 0) start 0 len kind
+    → index (part_of t.first.now kind start len).item (names_of t) ≡ Some i
+unfolding names_of name_in part_in
+placed t {i} {kind} {start} {len} l p =
+    let x : Item = (part_of t.first.now kind start len).item in
+    let a : List ℕ = t.first.now in
+    let b : List ℕ = t.second.now in
+    let e : ℕ = get_or t.entries i 0 in
+    let is : name_in a b e ≡ x = item_path p.kind_is p.length_is
+    (rw (p.length_is, p.start_is, p.side_is) (ap (λ (s : List ℕ). take len (drop start s)) (side_first 0 a b refl))) in
+    let h : same_name x (name_in a b e) ≡ true = rw is (same_name_refl x) in
+    index_some a b t.entries t.count x (count-le t.chained.table) i l h
+    (λ j k. same_via x (name_in a b e) (name_in a b (get_or t.entries j 0)) h ∙ t.chained.unlike i j l k)
 
 -- ---- a search along a chain
 
@@ -174,6 +198,14 @@ chain_start a b es links e z =
     zeros k l = rw z (get_or-replicate links_size k 0 0 (omega arith))
 
 -- ---- one more entry
+
+-- the names of a table with one entry more
+pub names-set : (a b es : List ℕ) (count e : ℕ) → count < length es
+    → names_in a b (take (count + 1) (set es count e)) ≡ names_in a b (take count es) ++ (name_in a b e ∷ [])
+unfolding names_in
+names-set a b es count e l =
+    ap (λ (n : ℕ). map (name_in a b) (take n (set es count e))) (add-one count)
+    ∙ ap (map (name_in a b)) (take-suc-set es count e l) ∙ map-append (name_in a b) (take count es) (e ∷ [])
 
 module _ {a b es links : List ℕ} {count e : ℕ} (c : Chained a b es links count) (lt : count < max_entries) (ok : Sound a b e)
     (new : index (name_in a b e) (names_in a b (take count es)) ≡ None) where

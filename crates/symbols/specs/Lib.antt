@@ -4,3 +4,4 @@ pub mod Entry
 pub mod Entries
 pub mod Chains
 pub mod Noting
+pub mod Names

@@ -4,3 +4,4 @@
 pub mod entry;
 pub mod lookup;
 pub mod mark;
+pub mod names;

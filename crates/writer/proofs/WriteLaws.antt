@@ -26,7 +26,7 @@ use Rattle.encoder.specs.Plan.{Measured}
 use Rattle.writer.specs.Putting.{Putting}
 use Rattle.writer.specs.Verdict.{Passed, Verdict, passed, refused}
 use Rattle.rows.proofs.StackLaws.{opened-length}
-use Rattle.symbols.proofs.ChainLaws.{length-names}
+use Rattle.symbols.proofs.ChainLaws.{length_names}
 use Rattle.rows.specs.Plan.{plan_size}
 use Rattle.format.specs.Written.{Writes}
 
@@ -45,11 +45,11 @@ module _ {text plan : List ℕ} {rs : List Row} {s : State} (g : Passed text pla
   unfolding judge
   passed-ends = rw (append-nil rs) at (g.after.run []) ∙ rw (passed-due, g.after.row)
 
-  measured : Measured plan_size text text g.es g.links plan (items_at text rs) s.names s.size
+  measured : Measured plan_size g.names plan (items_at text rs) s.size
   measured = rw g.after.items at g.after.measured
 
   few-names : length (names_from [] (items_at text rs)) ≤ max_entries
-  few-names = let m = measured in omega (arith, ap length m.names, length-names m.table.table, m.table.table.few)
+  few-names = omega (arith, ap length measured.names, length_names g.names, g.names.chained.table.few)
 
 module _ (rs : List Row) (text : List ℕ) (capacity : ℕ) where
   pub writing-rows : max_rows < length rs → writing rs text capacity ≡ fail TooManyRows 0

@@ -4,20 +4,20 @@ use Rattle.format.specs.declared.row.Row.{Row}
 use Rattle.format.specs.declared.failure.Failure.{Failure}
 use Rattle.format.specs.Answer.{Answer}
 use Rattle.format.specs.Writing.{begin, judge}
+use Rattle.symbols.specs.declared.names.Names.{Names}
 use Rattle.rows.specs.declared.state.State.{State}
 use Rattle.rows.specs.Judging.{After}
 use Rattle.rows.specs.Stack.{top_fields}
 
 -- The state before the first row.
 unfoldable pub begun : State
-begun = record { row = 0; depth = 0; left = top_fields; keyed = 0; names = 0; size = 0 }
+begun = record { row = 0; depth = 0; left = top_fields; keyed = 0; size = 0 }
 
 -- All of the rows xs passed.
 pub record Passed (text plan : List ℕ) (xs : List Row) (s : State) : Type 0 where
-  pub es : List ℕ
-  pub links : List ℕ
+  pub names : Names
   pub st : List ℕ
-  pub after : After text es links st plan xs s
+  pub after : After text names st plan xs s
 
 -- What judging the rows xs comes to.
 pub data Verdict (text plan : List ℕ) (xs : List Row) : Answer State → Type 0 where

@@ -4,9 +4,9 @@ ghost use Rattle.format.specs.Limits.{max_bytes, max_rows};
 ghost use Rattle.rows.specs.Plan.{plan_size};
 ghost use Rattle.writer.specs.Verdict.{begun, Verdict};
 
-use format::{Bundle, Failure, Row, SymbolTable};
+use format::{Bundle, Failure, Row};
 use rows::{Plan, State, step};
-use symbols::lookup::Links;
+use symbols::names::Names;
 
 // The state before the first row.
 #[tactic(auto, unfolding(crate::specs::Verdict::begun))]
@@ -18,7 +18,6 @@ fn begin() -> State
         depth: 0,
         left: State::TOP,
         keyed: 0,
-        names: 0,
         size: 0,
     }
 }
@@ -28,20 +27,11 @@ pub fn judge(rows: &[Row], text: &[u8], plan: &mut [u16; Plan::SIZE]) -> Result<
     requires { (length rows.now ≤ max_rows) × (length text.now ≤ max_bytes) × (length plan.old ≡ plan_size) }
     ensures { Verdict text.now plan.new rows.now result }
 {
-    let mut entries = SymbolTable::new();
-    let mut links = [0u16; Links::SIZE];
+    let mut names = Names::new(text, &[]);
     let mut stack = [0u64; Bundle::MAX_DEPTH];
     let mut s = begin();
     for row in rows {
-        step(
-            text,
-            &mut entries,
-            &mut links,
-            &mut stack,
-            plan,
-            &mut s,
-            *row,
-        )?;
+        step(&mut names, &mut stack, plan, &mut s, *row)?;
     }
     Ok(s)
 }

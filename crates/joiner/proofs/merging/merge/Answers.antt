@@ -8,44 +8,36 @@ use Rattle.joiner.proofs.merging.merge.Goals as goal
 
 pub returns-then-rows-gt-MAX_COUNT : goal.returns-then-rows-gt-MAX_COUNT
 returns-then-rows-gt-MAX_COUNT c =
-    let pre' = c.requires in
-    rows-over (pre') _ c.fail.ensures c.if-rows-gt-MAX_COUNT.true
+    rows-over c.requires _ c.fail.ensures c.if-rows-gt-MAX_COUNT.true
 
-pub measure_both-t-requires : goal.measure_both-t-requires
-measure_both-t-requires c =
-    let pre' = c.requires in
-    (record { rows = _; both = pre'; few = c.if-rows-gt-MAX_COUNT.false }, length-replicate {A = ℕ} max_rows 0)
+pub measure_both-requires : goal.measure_both-requires
+measure_both-requires c =
+    (record { rows = _; both = c.requires; few = c.if-rows-gt-MAX_COUNT.false }, length-replicate {A = ℕ} max_rows 0)
 
-pub returns-then-t-gt-MAX_ENTRIES : goal.returns-then-t-gt-MAX_ENTRIES
-returns-then-t-gt-MAX_ENTRIES c =
-    let pre' = c.requires in
-    let p = pre' in
+pub returns-in-None : goal.returns-in-None
+returns-in-None c =
+    let p = c.requires in
     let few = c.if-rows-gt-MAX_COUNT.false in
-    names-over p few (c.measure_both-t.ensures _ p few) c.args.out.now c.fail-then-t-gt-MAX_ENTRIES.ensures
-    c.if-t-gt-MAX_ENTRIES.true
+    names-over p few c.args.out.now c.fail-in-None.ensures (rw c.in-None.is at (c.measure_both.ensures _ p few))
 
 pub returns-then-is_over : goal.returns-then-is_over
 returns-then-is_over c =
-    let pre' = c.requires in
-    let p = pre' in
+    let p = c.requires in
     let few = c.if-rows-gt-MAX_COUNT.false in
-    size-over p few (c.measure_both-t.ensures _ p few) c.args.out.now c.if-t-gt-MAX_ENTRIES.false
-    c.fail-then-is_over.ensures (sym c.is_over.ensures ∙ c.if-is_over.true)
+    let m = rw c.in-Some.is at (c.measure_both.ensures _ p few) in
+    size-over p few m c.args.out.now c.fail-then-is_over.ensures (sym c.is_over.ensures ∙ c.if-is_over.true)
 
 pub put_both-requires : goal.put_both-requires
 put_both-requires c =
-    let pre' = c.requires in
-    let p = pre' in
+    let p = c.requires in
     let few = c.if-rows-gt-MAX_COUNT.false in
-    let fits = sym c.is_over.ensures ∙ c.if-is_over.false in
-    record { rows = _; both = p; planned = planned p few (c.measure_both-t.ensures _ p few) c.args.out.now c.if-t-gt-MAX_ENTRIES.false fits }
+    let m = rw c.in-Some.is at (c.measure_both.ensures _ p few) in
+    record { rows = _; both = p; planned = planned p few m c.args.out.now (sym c.is_over.ensures ∙ c.if-is_over.false) }
 
 pub returns : goal.returns
 returns c =
-    let pre' = c.requires in
-    let p = pre' in
+    let p = c.requires in
     let few = c.if-rows-gt-MAX_COUNT.false in
-    let old = c.args.out.now in
-    let m = c.measure_both-t.ensures _ p few in
+    let m = rw c.in-Some.is at (c.measure_both.ensures _ p few) in
     let fits = sym c.is_over.ensures ∙ c.if-is_over.false in
-    written p few m old c.if-t-gt-MAX_ENTRIES.false fits (c.put_both.ensures _ p (planned p few m old c.if-t-gt-MAX_ENTRIES.false fits))
+    written p few m c.args.out.now fits (c.put_both.ensures _ p (planned p few m c.args.out.now fits))

@@ -28,7 +28,7 @@ returns-then-is_number c =
     let v = turned w p c.requires.1 in
     plain-on w p c.requires.1 _ 0 _ (omega arith) (number-plain v n.0 n.1) (c.shortest_len.ensures.0
     ∙ number-length c.args.h.code c.args.h.payload
-    (omega (arith, c.struct_known-2-1.given))
+    (omega (arith, c.struct_known-1.given))
     ∙ ap length (sym (number-full v n.0 n.1))) (omega (arith, c.shortest_len.ensures.1))
     c.after.ensures
 

@@ -25,7 +25,6 @@ key_of-key-requires c =
 
 pub note-requires : goal.note-requires
 note-requires c = (
-  c.requires.0.partway.measured.table,
   rw (c.of-len.ensures, c.kind_of-kind.ensures)
       (name_here c.requires).part,
   c.key_of-key.ensures.0,
@@ -55,7 +54,7 @@ referred-requires c =
     let q = name_here c.requires in (c.requires.0.partway.measured.plan_size, q.room, q.small)
 
 pub overflow_cast-to-in-Entered : goal.overflow_cast-to-in-Entered
-overflow_cast-to-in-Entered c = let g = rw c.in-Entered.is at c.note.ensures in omega (arith, g.room)
+overflow_cast-to-in-Entered c = let g = rw c.in-Entered.is at c.note.ensures in omega (arith, g.grown.room)
 
 pub offset_bounds-to-old-in-Entered : goal.offset_bounds-to-old-in-Entered
 offset_bounds-to-old-in-Entered c =
@@ -75,14 +74,12 @@ overflow_add-shortest_len c =
 
 pub fresh-requires : goal.fresh-requires
 fresh-requires c =
-    let q = name_here c.requires in
-    let g = rw c.in-Entered.is at c.note.ensures in (
+    let q = name_here c.requires in (
       c.requires.0.partway.measured.plan_size,
       q.room,
       q.small,
       omega (arith, q.within, q.short, c.of-len.ensures, c.shortest_len.ensures.1),
       q.old,
-      g.room,
     )
 
 pub returns-in-Known : goal.returns-in-Known
@@ -90,7 +87,7 @@ returns-in-Known c =
     λ zs u w p.
     let q = name_here c.requires in
     let g = rw (c.in-Known.is, c.of-len.ensures, c.kind_of-kind.ensures, q.count) at c.note.ensures in
-    rw (g.2, g.3, c.referred.ensures.planned)
+    rw (g.2, c.referred.ensures.planned)
     (known_on w p c.requires.1 q.form c.requires.2 c.in-Known.i g.0 g.1
     (rw c.of-len.ensures at c.referred.ensures.state))
 
@@ -99,10 +96,10 @@ returns-in-Entered c =
     λ zs u w p.
     let q = name_here c.requires in
     let g = rw (c.in-Entered.is, c.of-len.ensures, c.kind_of-kind.ensures, q.count) at c.note.ensures in
-    rw c.fresh.ensures.planned
+    rw (c.fresh.ensures.planned)
     (fresh_on w p c.requires.1 q.form c.requires.2 g (rw c.of-len.ensures at c.fresh.ensures.state
-    ∙ ap (tallied c.args.t (c.args.t.at + c.args.h.size + c.args.h.payload) (c.args.t.entries + 1)
-    (c.args.t.names + 1)) (omega (arith, q.count, c.shortest_len.ensures.0))))
+    ∙ ap (tallied c.args.t.now (c.args.t.now.at + c.args.h.size + c.args.h.payload) (c.args.t.now.entries + 1))
+    (omega (arith, q.count, c.shortest_len.ensures.0))))
 
 pub returns-in-Full : goal.returns-in-Full
 returns-in-Full c =
@@ -110,4 +107,4 @@ returns-in-Full c =
     let q = name_here c.requires in
     let g = rw (c.in-Full.is, c.of-len.ensures, c.kind_of-kind.ensures, q.count)
     at c.note.ensures in
-    full-over w p c.requires.1 q.form c.requires.2 g.0 g.1 c.over.ensures.0 c.over.ensures.1
+    full-over w p c.requires.1 q.form c.requires.2 g.0 g.1

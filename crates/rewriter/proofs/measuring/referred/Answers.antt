@@ -10,7 +10,6 @@ after-requires c = (c.requires.1, omega (arith, c.requires, c.header_len-n.ensur
 
 pub returns : goal.returns
 returns c = record {
-  state = c.after.ensures ∙ ap (tallied c.args.t c.args.at
-      c.args.entries c.args.t.names) c.header_len-n.ensures;
+  state = c.after.ensures ∙ ap (tallied c.args.t c.args.at c.args.entries) c.header_len-n.ensures;
   planned = refl;
 }

@@ -25,6 +25,6 @@ pub returns : goal.returns
 returns c =
     let h = rw c.code_of.ensures at c.header_len.ensures in
     record {
-      state = c.named.ensures ∙ ap (named_by _ _ _ _) (ap (λ (n : ℕ). n + c.args.row.number) h);
+      state = c.named.ensures ∙ ap (named_by _ _ _) (ap (λ (n : ℕ). n + c.args.row.number) h);
       planned = refl;
     }

@@ -12,6 +12,6 @@ named-requires c = ready_more c.requires.0.1 _
 
 pub returns : goal.returns
 returns c = record {
-  state = c.named.ensures ∙ ap (named_by _ _ _ _) c.header_len.ensures;
+  state = c.named.ensures ∙ ap (named_by _ _ _) c.header_len.ensures;
   planned = refl;
 }

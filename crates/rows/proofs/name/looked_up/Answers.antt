@@ -1,7 +1,7 @@
 -- `rows::name::looked_up` meets its contract: no UTF-8, known, new, or one name too many. Assumes nothing.
 use Rattle.format.specs.declared.error.Error.TheVariants.{TooManyEntries}
 use native.Mathlib.Omega.{arith}
-use mathlib.Core.Path.{ap, sym, ◌∙◌}
+use mathlib.Core.Path.{refl, ap, sym, ◌∙◌}
 use mathlib.Core.Bool.{not}
 use Rattle.format.specs.Utf8.{utf8}
 use Rattle.rows.proofs.RowLaws.{content-end, inside, kind-most}
@@ -11,7 +11,7 @@ use Rattle.rows.proofs.NameLaws.{has_content_lem, name-stands, looked_up, among,
 use Rattle.rows.proofs.name.looked_up.Goals as goal
 
 pub content-part-requires : goal.content-part-requires
-content-part-requires c = (c.requires.0.short, c.requires.1.fine, has_content_lem c.args.text.now c.args.row c.requires.1.name c.requires.1.fine)
+content-part-requires c = (c.requires.0.short, c.requires.1.fine, has_content_lem c.args.names.now.first.now c.args.row c.requires.1.name c.requires.1.fine)
 
 pub invalid_text-requires : goal.invalid_text-requires
 invalid_text-requires c =
@@ -27,30 +27,30 @@ returns-then-not-is_utf8 c = λ xs a.
     ∙ sym c.is_utf8.ensures) ∙ ap not c.if-not-is_utf8.true))
 
 pub key_of-key-requires : goal.key_of-key-requires
-key_of-key-requires c = let w = name-stands c.args.text.now
-    c.args.row c.requires.1.name c.requires.1.fine c.requires.0.short
+key_of-key-requires c = let w = name-stands c.args.names.now.first.now
+    c.args.row c.requires.1.name c.requires.1.fine c.args.names.now refl c.requires.0.short
     c.content-part.ensures in
     (w.low, w.high, w.short)
 
 pub note-requires : goal.note-requires
 note-requires c =
-    (c.requires.2, name-stands c.args.text.now c.args.row c.requires.1.name c.requires.1.fine c.requires.0.short c.content-part.ensures, c.key_of-key.ensures.0)
+    (name-stands c.args.names.now.first.now c.args.row c.requires.1.name c.requires.1.fine c.args.names.now refl c.requires.0.short c.content-part.ensures, c.key_of-key.ensures.0)
 
 pub overflow_cast-i : goal.overflow_cast-i
 overflow_cast-i c = let n = rw c.in-Known.is at c.note.ensures in omega (arith, n.1)
 
 pub fresh-requires : goal.fresh-requires
 fresh-requires c = let r = c.args.row in
-    let text = c.args.text.now in
+    let text = c.args.names.now.first.now in
     let n = rw c.in-Entered.is at c.note.ensures in
     let i = inside text r c.requires.1.fine (has_content_lem text r c.requires.1.name c.requires.1.fine) in
-    ((text, c.requires.0), c.requires.3, n.room, c.requires.1.name, kind-most text r c.requires.1.fine, omega (arith, i, c.requires.0.short))
+    ((text, c.requires.0), c.requires.2, omega (arith, n.grown.room), c.requires.1.name, kind-most text r c.requires.1.fine, omega (arith, i, c.requires.0.short))
 
 pub returns-in-Known : goal.returns-in-Known
 returns-in-Known c = λ xs a.
     let r = c.args.row in
     let n = rw c.in-Known.is at c.note.ensures in
-    rw (n.2, n.3)
+    rw n.2
     (known_next a r c.requires.1 c.requires.0 _ (omega (arith, n.1))
     (looked_up a r c.requires.1 c.requires.0
     c.content-part.ensures

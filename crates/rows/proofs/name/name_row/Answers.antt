@@ -5,13 +5,13 @@ use mathlib.Core.Path.{sym, ◌∙◌}
 use Rattle.rows.proofs.RowLaws.{content-text, bad-content, inside, kind-most}
 use Rattle.rows.proofs.JudgeLaws.{rule_9, refuse_next}
 use Rattle.rows.proofs.KindLaws.{name-again}
-use Rattle.rows.proofs.NameLaws.{guessed, known_next}
+use Rattle.rows.proofs.NameLaws.{part_item, known_next}
 use Rattle.rows.proofs.name.name_row.Goals as goal
 
 pub returns-then-is_bad : goal.returns-then-is_bad
 returns-then-is_bad c = λ xs a.
     let r = c.args.row in
-    let text = c.args.text.now in
+    let text = c.args.names.now.first.now in
     let name = c.requires.1 in
     refuse_next a r InvalidRow c.fail.ensures
     (rule_9 text a.progress r (bad-content text r (content-text r.kind (omega arith))
@@ -20,43 +20,42 @@ returns-then-is_bad c = λ xs a.
 pub returns-then-key_after_key : goal.returns-then-key_after_key
 returns-then-key_after_key c = λ xs a.
     let r = c.args.row in
-    let text = c.args.text.now in
+    let text = c.args.names.now.first.now in
     let name = c.requires.1 in
     let fine = bad-content text r (content-text r.kind (omega arith))
     ∙ sym c.is_bad.ensures ∙ c.if-is_bad.false in
     refuse_next a r UnexpectedKey c.fail-then-key_after_key.ensures
     (name-again a r name fine (sym c.key_after_key.ensures ∙ c.if-key_after_key.true))
 
-pub is_entry-requires : goal.is_entry-requires
-is_entry-requires c =
+pub is_part-requires : goal.is_part-requires
+is_part-requires c =
     let r = c.args.row in
-    let text = c.args.text.now in
+    let text = c.args.names.now.first.now in
     let h = content-text r.kind (omega (arith, c.requires.1)) in
     let fine = bad-content text r h ∙ sym c.is_bad.ensures
     ∙ c.if-is_bad.false in
     let i = inside text r fine h in
-    (c.requires.2.table.size, c.requires.2.table.few, c.requires.1, kind-most text r fine, omega (arith, i, c.requires.0.short), omega (arith, i, c.requires.0.short))
+    (c.requires.1, kind-most text r fine, omega (arith, i, c.requires.0.short), omega (arith, i, c.requires.0.short))
 
-pub returns-then-is_entry : goal.returns-then-is_entry
-returns-then-is_entry c = λ xs a.
+pub returns-then-is_part : goal.returns-then-is_part
+returns-then-is_part c = λ xs a.
     let r = c.args.row in
-    let text = c.args.text.now in
+    let text = c.args.names.now.first.now in
     let fine = bad-content text r (content-text r.kind (omega (arith, c.requires.1)))
     ∙ sym c.is_bad.ensures
     ∙ c.if-is_bad.false in
-    let g = c.is_entry.ensures c.if-is_entry.true in
     known_next a r (record {
       name = c.requires.1;
       fine = fine;
       alone = sym c.key_after_key.ensures
           ∙ c.if-key_after_key.false;
-    }) c.requires.0 _ (omega (arith, g.known, c.requires.2.table.few))
-    (guessed text r c.requires.1 fine c.requires.2 g) c.known.ensures.state c.known.ensures.planned
+    }) c.requires.0 _ (omega arith)
+    (rw (part_item text r c.requires.1 fine) (c.is_part.ensures c.if-is_part.true)) c.known.ensures.state c.known.ensures.planned
 
 pub looked_up-requires : goal.looked_up-requires
 looked_up-requires c =
     let r = c.args.row in
-    let text = c.args.text.now in
+    let text = c.args.names.now.first.now in
     let fine = bad-content text r (content-text r.kind (omega (arith, c.requires.1)))
     ∙ sym c.is_bad.ensures
     ∙ c.if-is_bad.false in (
@@ -68,5 +67,4 @@ looked_up-requires c =
             ∙ c.if-key_after_key.false;
       },
       c.requires.2,
-      c.requires.3,
     )

@@ -10,7 +10,7 @@ use Rattle.rows.proofs.KindLaws.{plain-deep, container-none, container-fine, con
 use Rattle.rows.proofs.row.container_row.Goals as goal
 
 pub returns-then-s-ge-MAX_DEPTH : goal.returns-then-s-ge-MAX_DEPTH
-returns-then-s-ge-MAX_DEPTH c = λ text es links plan xs a.
+returns-then-s-ge-MAX_DEPTH c = λ text names plan xs a.
     let r : Row = record { kind = 8; number = c.args.number; start = 0 } in
     refuse_next a r TooDeep c.fail.ensures
     (plain-deep a r (omega arith) (container-fine text r.number) refl c.if-s-ge-MAX_DEPTH.true)
@@ -20,12 +20,12 @@ value-requires c = ready_more c.requires.1 _ (omega
     (arith, c.header_len-n.ensures, header-most 3 c.args.number (omega arith)))
 
 pub returns-then-number-eq0 : goal.returns-then-number-eq0
-returns-then-number-eq0 c = λ text es links plan xs a.
+returns-then-number-eq0 c = λ text names plan xs a.
     let w = c.requires.1 in
     let n = c.args.number in
     let r : Row = record { kind = 8; number = n; start = 0 } in
     let h = c.header_len-n.ensures in
-    value-next a r _ _ c.value.ensures w.row (omega (arith, h, header-most 3 n (omega arith)))
+    value-next a r _ a.over c.value.ensures w.row (omega (arith, h, header-most 3 n (omega arith)))
     (container-none a r (omega arith) (container-fine text n) refl c.if-s-ge-MAX_DEPTH.false)
     (no_key a r (omega arith))
     (a_container a r refl ∙ ltb_no {a = 0} {b = n} (omega (arith, c.if-number-eq0.true)))
@@ -38,7 +38,7 @@ descend-requires c =
     (w.stack, c.if-s-ge-MAX_DEPTH.false, omega (arith, w.row), omega (arith, w.small, w.row, c.header_len-n.ensures))
 
 pub returns : goal.returns
-returns c = λ text es links plan xs a.
+returns c = λ text names plan xs a.
     let w = c.requires.1 in
     let n = c.args.number in
     let r : Row = record { kind = 8; number = n; start = 0 } in

@@ -11,7 +11,7 @@ use Rattle.rows.proofs.KindLaws.{content-bad, content-full, content-small, plain
 use Rattle.rows.proofs.row.content_row.Goals as goal
 
 pub returns-then-outside : goal.returns-then-outside
-returns-then-outside c = λ es links plan xs a.
+returns-then-outside c = λ names plan xs a.
     let r = c.args.row in
     let text = c.args.text.now in
     refuse_next a r InvalidRow c.fail.ensures
@@ -28,7 +28,7 @@ invalid_text-requires c =
     content-end _ c.args.row fine c.requires.2 c.content-part.ensures c.requires.0.short
 
 pub returns-then-bad_text : goal.returns-then-bad_text
-returns-then-bad_text c = λ es links plan xs a.
+returns-then-bad_text c = λ names plan xs a.
     let r = c.args.row in
     let text = c.args.text.now in
     let fine = content-bad text r c.requires.2 (omega (arith, c.requires.1))
@@ -62,7 +62,7 @@ value-requires c =
     ready_more c.requires.0 _ (content-small text r c.requires.2 fine c.requires.0.short _ h)
 
 pub returns : goal.returns
-returns c = λ es links plan xs a.
+returns c = λ names plan xs a.
     let r = c.args.row in
     let text = c.args.text.now in
     let fine = content-bad text r c.requires.2 (omega (arith, c.requires.1))
@@ -70,7 +70,7 @@ returns c = λ es links plan xs a.
     ∙ c.if-outside.false in
     let n = (content-kinds r.kind c.requires.2).1.1 in
     let h = rw c.code_of.ensures at c.header_len.ensures in
-    value-next a r _ _ c.value.ensures c.requires.0.row (content-small text r c.requires.2 fine c.requires.0.short _ h)
+    value-next a r _ a.over c.value.ensures c.requires.0.row (content-small text r c.requires.2 fine c.requires.0.short _ h)
     (value_none a r c.requires.1 fine n (ap (λ bs. eqb r.kind 9 && not (utf8 bs))
     (sym c.content-part.ensures)
     ∙ sym c.bad_text.ensures ∙ c.if-bad_text.false))

@@ -12,13 +12,13 @@ use Rattle.rows.proofs.KindLaws.{value_none, bare}
 use Rattle.rows.proofs.row.plain_row.Goals as goal
 
 pub returns-then-bad_number : goal.returns-then-bad_number
-returns-then-bad_number c = λ text es links plan xs a.
+returns-then-bad_number c = λ text names plan xs a.
     let r : Row = record { kind = c.args.kind; number = c.args.number; start = 0 } in
     let bad = bad-plain text r (omega arith) c.requires.2 refl ∙ sym c.bad_number.ensures ∙ c.if-bad_number.true in
     refuse_next a r InvalidRow c.fail.ensures (rule_9 text a.progress r bad)
 
 pub returns : goal.returns
-returns c = λ text es links plan xs a.
+returns c = λ text names plan xs a.
     let r : Row = record {
       kind = c.args.kind;
       number = c.args.number;
@@ -27,7 +27,7 @@ returns c = λ text es links plan xs a.
     let fine = bad-plain text r (omega arith) c.requires.2 refl ∙ sym c.bad_number.ensures
     ∙ c.if-bad_number.false in
     let w = c.requires.0.1 in
-    value-next a r _ _ c.value.ensures w.row (omega (arith, c.plain_len.ensures.1))
+    value-next a r _ a.over c.value.ensures w.row (omega (arith, c.plain_len.ensures.1))
     (value_none a r (omega arith) fine (λ e. omega arith) (and_no_left _ (eqb_no {a = r.kind} {b = 9} (λ e. omega arith))))
     (no_key a r (omega arith)) (no_container a r (λ e. omega arith))
     (measured-plain a r (omega arith) _ w.row (c.plain_len.ensures.0

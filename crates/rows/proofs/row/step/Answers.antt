@@ -10,7 +10,7 @@ pub content_row-requires : goal.content_row-requires
 content_row-requires c = (c.requires.0, c.if-kind-ge-SYMBOL.false, sym c.has_content.ensures ∙ c.if-has_content.true)
 
 pub returns-then-has_content : goal.returns-then-has_content
-returns-then-has_content c = λ xs a. c.content_row.ensures _ _ _ xs a
+returns-then-has_content c = λ xs a. c.content_row.ensures _ _ xs a
 
 pub returns-then-row-gt0 : goal.returns-then-row-gt0
 returns-then-row-gt0 c = λ xs a.
@@ -24,7 +24,7 @@ pub returns-then-kind-eq-CONTAINER : goal.returns-then-kind-eq-CONTAINER
 returns-then-kind-eq-CONTAINER c = λ xs a. next_row
     (row_is c.args.row 8
     c.if-kind-eq-CONTAINER.true (omega (arith, c.if-row-gt0.false)))
-    (c.container_row.ensures _ _ _ _ xs a)
+    (c.container_row.ensures _ _ _ xs a)
 
 pub plain_row-requires : goal.plain_row-requires
 plain_row-requires c =
@@ -34,4 +34,4 @@ plain_row-requires c =
 pub returns : goal.returns
 returns c = λ xs a. next_row
     (row_is c.args.row _ refl
-    (omega (arith, c.if-row-gt0.false))) (c.plain_row.ensures _ _ _ _ xs a)
+    (omega (arith, c.if-row-gt0.false))) (c.plain_row.ensures _ _ _ xs a)
