@@ -20,6 +20,9 @@ impl Links {
     pub const SIZE: usize = Links::HEADS + SymbolTable::MAX_ENTRIES;
 }
 
+// The three functions below are those of `Names`, over arrays that a caller has: strict reading calls them, as its arrays
+// are those that lenient reading fills with entries of no chain, which are no `Names`.
+
 // The index of the first entry of a name.
 pub fn find<'a>(
     first: &'a [u8],
