@@ -10,7 +10,7 @@ ghost use Rattle.encoder.specs.Plan.{referring};
 use format::{Header, Row, SymbolTable};
 use wire::output::{copy, put_header, put_number};
 
-// How a name is to be written: an index, or in full.
+// How a name is to be written: an index, or in full, as a number of a table in fixed memory (`specs/Plan`).
 #[derive(Clone, Copy)]
 pub struct Reference;
 

@@ -5,7 +5,7 @@ ghost use Rattle.format.specs.Answer.{fail, failure, failure_beside, sided};
 use crate::error::Error;
 
 // The error and its place. Of joining the side too: 1 or 2 for the bundle that does not read, else 0. Of writing a text
-// that is not UTF-8 the row too, since the place is an offset then; else 0.
+// that is not UTF-8 the row too, since the place is an offset then; else 0. Side and row are the numbers of the C interface.
 #[derive(Clone, Copy, Debug, PartialEq, Eq)]
 pub struct Failure {
     pub error: Error,

@@ -1,4 +1,4 @@
-// The program `listing`: what it does and answers is `programs::start`.
+// The program `listing`, a crate of its own, as each program is: what it does and answers is `programs::start`.
 #![tactic(auto)]
 
 use programs::{Listing, start};

@@ -10,7 +10,8 @@ use format::{Error, Failure, FieldCount, SymbolTable, fail};
 use items::item::{Out, Refusal};
 use symbols::lookup::Links;
 
-// How far reading has come: the offset, the entries, the rows that are left, and 1 where a key was read and its value is due.
+// How far reading has come: the offset, the entries, the rows that are left, and 1 where a key
+// was read and its value is due (as in `rows::State`).
 #[derive(Clone, Copy)]
 pub struct Cursor {
     pub at: usize,

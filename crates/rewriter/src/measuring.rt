@@ -208,6 +208,7 @@ pub fn measure(
         row: from.row,
         size: from.size,
     };
+    // An item at a time, as long as it is.
     while t.at < s.len() {
         item(names, s, side, &mut to, plan, &mut t)?;
     }

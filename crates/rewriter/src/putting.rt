@@ -117,6 +117,7 @@ pub fn put(out: &mut [u8], s: &[u8], plan: &[u16; Row::MAX_COUNT], from: Spot) -
         row: from.row,
         out: from.out,
     };
+    // An item at a time, as long as it is.
     while w.at < s.len() {
         w = item(out, s, plan, w);
     }

@@ -15,7 +15,8 @@ pub struct State {
     pub depth: usize,
     // fields left in the innermost
     pub left: u64,
-    // 1 where a key was taken and its value is due
+    // 1 where a key was taken and its value is due. As a truth value, with padding behind it, writing boards took 1.08 times as
+    // long and names 1.05 times (two runs of the bench in turn).
     pub keyed: usize,
     // bytes of the canonical encoding
     pub size: usize,

@@ -6,7 +6,7 @@ ghost use Rattle.stream.specs.Window.{Pulls, Within, unread, unused};
 use crate::failure::{Failed, has_failed};
 use std::io::Read;
 
-// Ended: there is no more input. Nothing is read yet of the default.
+// Ended: there is no more input, though bytes may be left. Nothing is read yet of the default.
 #[derive(Clone, Copy, Debug, PartialEq, Eq, Default)]
 pub struct Window {
     pub start: usize,

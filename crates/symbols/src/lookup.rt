@@ -10,7 +10,7 @@ ghost use Rattle.symbols.specs.Noting.{NotedAs};
 use crate::entry::{Entry, bucket, is_name, pack};
 use format::SymbolTable;
 
-// The links of the chains: a head for each bucket, then the next of each entry.
+// The links of the chains: a head for each bucket, then the next of each entry; in fixed memory, so no map of the library.
 #[derive(Clone, Copy)]
 pub struct Links;
 

@@ -1,4 +1,4 @@
-// The program `tidy`: what it does and answers is `programs::start`.
+// The program `tidy`, a crate of its own, as each program is: what it does and answers is `programs::start`.
 #![tactic(auto)]
 
 use programs::{Tidy, start};
