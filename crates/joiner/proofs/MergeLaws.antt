@@ -103,7 +103,7 @@ module _ {a b : List ℕ} {rows : ℕ} (p : Both a b rows) where
     first-fits l = absurd (omega (arith, (reading-within lenient a p.first).names))
 
     pub both-measured : (old new : Names) (plan : List ℕ) (t : Option Tally) → Measures old new xs p.v plan t → Measured p plan t
-    both-measured old new plan None m = m
+    both-measured old new plan None m = m.0
     both-measured old new plan (Some t) m = record { names = new; tallied = m.0 }
 
     few : length (xs ++ ys) ≤ max_rows

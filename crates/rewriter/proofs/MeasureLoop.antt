@@ -11,7 +11,7 @@ use Rattle.format.proofs.Turns.{all_read}
 use Rattle.format.proofs.Steps.{reads-run}
 use Rattle.symbols.specs.declared.names.Names.{Names}
 use Rattle.rewriter.specs.declared.measuring.Tally.{Tally}
-use Rattle.rewriter.specs.Measuring.{Alike, Bundled, Partway, Further, Here, Begun, Tallied, text_of}
+use Rattle.rewriter.specs.Measuring.{Alike, Bundled, Partway, Further, Here, Begun, Over, Tallied, text_of}
 use Rattle.rewriter.proofs.MapLaws.{mapped-start}
 use Rattle.rewriter.proofs.MeasureSteps.{alike_self}
 
@@ -64,6 +64,10 @@ module _ {old names : Names} {s : List ℕ} {side : ℕ} {zs : List Item} {u : S
         partway = o.partway;
         alike = record { first = o.alike.first ∙ g.alike.first; second = o.alike.second ∙ g.alike.second };
       }
+
+  -- there are too many names
+  pub stage-over : {new : Names} → Over zs u × Alike names new → Over zs u × Alike old new
+  stage-over o = (o.0, record { first = o.1.first ∙ g.alike.first; second = o.1.second ∙ g.alike.second })
 
   -- none is left
   pub stage-end : length s ≤ t.at → Tallied names plan (zs ++ items_of u.found) t × Alike old names

@@ -34,6 +34,10 @@ use Rattle.rewriter.proofs.Arms.{Plain, name-is, name_part, name-text, content-l
 pub alike_self : {names : Names} → Alike names names
 alike_self = record { first = refl; second = refl }
 
+-- the same table
+pub alike_same : {old new : Names} → new ≡ old → Alike old new
+alike_same e = record { first = ap (λ (t : Names). t.first.now) e; second = ap (λ (t : Names). t.second.now) e }
+
 module _ {names : Names} {s : List ℕ} {side : ℕ} {zs : List Item} {u : State} (w : Bundled names s side zs u)
     {to plan : List ℕ} {t : Tally} (p : Partway names s zs u to plan t)
     {h : Header} (e : Some h ≡ header_of (drop t.at s)) where

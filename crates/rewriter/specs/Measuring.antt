@@ -56,9 +56,9 @@ pub record Further (old new : Names) (s : List ℕ) (zs : List Item) (u : State)
 abbrev pub Over : List Item → State → Type 0
 Over zs u = max_entries < length (names_from [] (zs ++ items_of u.found))
 
--- What measuring one item comes to.
+-- What measuring one item comes to. Without an answer too, the table is over the same texts.
 abbrev pub Onward : Names → Names → List ℕ → List Item → State → List ℕ → List ℕ → Tally → Tally → Option Unit → Type 0
-Onward old new s zs u to plan t r None = Over zs u
+Onward old new s zs u to plan t r None = Over zs u × Alike old new
 Onward old new s zs u to plan t r (Some _) = Further old new s zs u to plan t r
 
 -- What it asks.
@@ -89,5 +89,5 @@ pub record Ready (names : Names) (side : ℕ) (plan : List ℕ) (t : Tally) : Ty
 
 -- What measuring a bundle comes to.
 abbrev pub Measures : Names → Names → List Item → State → List ℕ → Option Tally → Type 0
-Measures old new zs u plan None = Over zs u
+Measures old new zs u plan None = Over zs u × Alike old new
 Measures old new zs u plan (Some t) = Tallied new plan (zs ++ items_of u.found) t × Alike old new

@@ -201,6 +201,7 @@ pub fn measure(
         → Measures names.old names.new zs u plan.new result }
 {
     let s = names.text(side);
+    // for each entry its index among the names, in fixed memory
     let mut to = [0u16; SymbolTable::MAX_ENTRIES];
     let mut t = Tally {
         at: 0,

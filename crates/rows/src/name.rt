@@ -24,7 +24,7 @@ use wire::header::{code_of, header_len};
 use wire::rules::key_after_key;
 
 // For each row that is a name its reference, and then guesses: the entry of a name that begins at a place in the text,
-// if it is still there.
+// if it is still there. One array in fixed memory: the numbers are indices, and `Reference::FULL` for a name in full.
 #[derive(Clone, Copy)]
 pub struct Plan;
 
@@ -96,8 +96,9 @@ fn looked_up(
     row: Row,
 ) -> Result<(), Failure>
     requires { Ready names.old.first.now stack.now s.old × Naming names.old.first.now s.old row × (length plan.old ≡ plan_size) }
-    ensures { (xs : List Row) → After names.old.first.now names.old stack.now plan.old xs s.old
+    ensures next { (xs : List Row) → After names.old.first.now names.old stack.now plan.old xs s.old
         → Next names.old.first.now names.new stack.now plan.new xs row s.old s.new result }
+    ensures texts { (names.new.first.now ≡ names.old.first.now) × (names.new.second.now ≡ names.old.second.now) }
 {
     let part = content(names.first, row);
     if !is_utf8(part) {
@@ -123,8 +124,9 @@ pub fn name_row(
     row: Row,
 ) -> Result<(), Failure>
     requires { Ready names.old.first.now stack.now s.old × (Kind.symbol ≤ row.kind) × (length plan.old ≡ plan_size) }
-    ensures { (xs : List Row) → After names.old.first.now names.old stack.now plan.old xs s.old
+    ensures next { (xs : List Row) → After names.old.first.now names.old stack.now plan.old xs s.old
         → Next names.old.first.now names.new stack.now plan.new xs row s.old s.new result }
+    ensures texts { (names.new.first.now ≡ names.old.first.now) × (names.new.second.now ≡ names.old.second.now) }
 {
     if is_bad(names.first.len(), row) {
         return fail(Error::InvalidRow, s.row);

@@ -91,8 +91,9 @@ pub fn step(
     row: Row,
 ) -> Result<(), Failure>
     requires { Ready names.old.first.now stack.old s.old × (length plan.old ≡ plan_size) }
-    ensures { (xs : List Row) → After names.old.first.now names.old stack.old plan.old xs s.old
+    ensures next { (xs : List Row) → After names.old.first.now names.old stack.old plan.old xs s.old
         → Next names.old.first.now names.new stack.new plan.new xs row s.old s.new result }
+    ensures texts { (names.new.first.now ≡ names.old.first.now) × (names.new.second.now ≡ names.old.second.now) }
 {
     let kind = row.kind;
     if Row::SYMBOL <= kind {

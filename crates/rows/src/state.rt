@@ -11,7 +11,7 @@ use format::{Error, Failure, Row};
 pub struct State {
     // rows taken
     pub row: usize,
-    // open containers
+    // open containers, whose fields left stand in an array beside, in fixed memory
     pub depth: usize,
     // fields left in the innermost
     pub left: u64,

@@ -11,7 +11,8 @@ measure-requires c =
 pub returns-in_err-t : goal.returns-in_err-t
 returns-in_err-t c =
     λ rows p l.
-    absurd (first-fits p l ((rw c.in_err-t.was at c.measure.ensures) [] p.u (begun_first p l c.begin.ensures c.new-names.ensures c.requires.1)))
+    let m = rw c.in_err-t.was at c.measure.ensures in
+    absurd (first-fits p l (m [] p.u (begun_first p l c.begin.ensures c.new-names.ensures c.requires.1)).0)
 
 pub measure-requires-2 : goal.measure-requires-2
 measure-requires-2 c =

@@ -1,7 +1,7 @@
 -- `rewriter::measuring::measure` meets its contract: the loop keeps `Stage`, and each item takes bytes. Assumes nothing.
 use mathlib.Core.Path.{refl}
 use native.Mathlib.Omega.{arith}
-use Rattle.rewriter.proofs.MeasureLoop.{stage-start, stage_here, stage-next, stage-end}
+use Rattle.rewriter.proofs.MeasureLoop.{stage-start, stage_here, stage-next, stage-over, stage-end}
 use Rattle.rewriter.proofs.measuring.measure.Goals as goal
 
 pub loop-t-init : goal.loop-t-init
@@ -26,3 +26,10 @@ loop-t-preserved c =
 
 pub returns : goal.returns
 returns c = λ zs u b. stage-end (c.loop-t.invariant zs u b) c.loop-t-test.false
+
+pub returns-in_err-item : goal.returns-in_err-item
+returns-in_err-item c =
+    λ zs u b.
+    let g = c.loop-t.invariant zs u b in
+    let o = rw c.in_err-item.was at c.item.ensures in
+    rw c.from_residual.ensures (stage-over g (o zs u g.bundled g.partway))

@@ -3,7 +3,7 @@ use mathlib.Core.Path.{ap, ◌∙◌}
 use Prim.Native.Nat.{◌+◌}
 use native.Mathlib.Omega.{arith}
 use Rattle.rewriter.specs.Measuring.{tallied}
-use Rattle.rewriter.proofs.MeasureSteps.{name_here, known_on, fresh_on, full-over}
+use Rattle.rewriter.proofs.MeasureSteps.{alike_same, name_here, known_on, fresh_on, full-over}
 use Rattle.rewriter.proofs.measuring.name.Goals as goal
 
 pub overflow_add-next : goal.overflow_add-next
@@ -107,4 +107,4 @@ returns-in-Full c =
     let q = name_here c.requires in
     let g = rw (c.in-Full.is, c.of-len.ensures, c.kind_of-kind.ensures, q.count)
     at c.note.ensures in
-    full-over w p c.requires.1 q.form c.requires.2 g.0 g.1
+    (full-over w p c.requires.1 q.form c.requires.2 g.0 g.1, alike_same g.2)

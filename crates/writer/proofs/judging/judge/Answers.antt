@@ -13,13 +13,13 @@ step-requires c = ready _ _ c.loop-row.invariant (omega (arith, c.loop-row-test.
 
 pub loop-row-preserved : goal.loop-row-preserved
 loop-row-preserved c =
-    taken_more _ _ (omega (arith, c.loop-row-test.true)) (rw c.in_ok-step.was at (stepped c.step.ensures c.loop-row.invariant))
+    taken_more _ _ (omega (arith, c.loop-row-test.true)) (rw c.in_ok-step.was at (stepped c.step.ensures.next c.loop-row.invariant))
 
 pub returns-in_err-step : goal.returns-in_err-step
 returns-in_err-step c =
     let failed = err_from_is_err_and c.from_residual.result c.from_residual.ensures.1 in
     rw (failed.1, failed.2)
-    (refused (refused_more _ _ (omega (arith, c.loop-row-test.true)) (rw c.in_err-step.was at (stepped c.step.ensures c.loop-row.invariant))))
+    (refused (refused_more _ _ (omega (arith, c.loop-row-test.true)) (rw c.in_err-step.was at (stepped c.step.ensures.next c.loop-row.invariant))))
 
 pub returns : goal.returns
 returns c = passed (all_passed _ _ c.loop-row.invariant (omega (arith, c.loop-row-test.false)))
