@@ -150,7 +150,8 @@ pub ready_more : {text st : List ℕ} {s : State} → Ready text st s → (n : �
 ready_more w n l = (w.stack, w.deep, w.top, omega (arith, w.row), omega (arith, w.small, w.row))
 
 module _ {text : List ℕ} {names : Names} {st plan : List ℕ} {xs : List Row} {s : State} (a : After text names st plan xs s) (r : Row) where
-  pub value-next : {names' : Names} {plan' : List ℕ} (n : ℕ) {t : State} → names'.first.now ≡ text → t ≡ valued st s n → s.row < max_rows → n ≤ max_item
+  pub value-next : {names' : Names} {plan' : List ℕ} (n : ℕ) {t : State} → names'.first.now ≡ text → t ≡ valued st s n
+      → s.row < max_rows → n ≤ max_item
       → first (row_rules text a.progress r) ≡ None → is_key (item_at text r) ≡ false → is_container (item_at text r)
       && ltb 0 r.number ≡ false
       → Measured plan_size names' plan' (a.progress.items ++ (item_at text r ∷ [])) (s.size + n)

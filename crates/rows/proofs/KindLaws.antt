@@ -138,7 +138,12 @@ module _ {text : List ℕ} {names : Names} {st plan : List ℕ} {xs : List Row} 
     unfolding item_at
     known-none i e =
         rule-none text a.progress r fine (keys_are a r ∙ alone) name_flat (good-text (known-text a.measured (item_at text r) i e))
-        (omega (arith, ap length (noted-known (item_at text r) a.progress.names (ap (index (item_at text r)) a.names ∙ e)), names-count a r, names.chained.table.few))
+        (omega (
+          arith,
+          ap length (noted-known (item_at text r) a.progress.names (ap (index (item_at text r)) a.names ∙ e)),
+          names-count a r,
+          names.chained.table.few,
+        ))
 
     module _ (e : index (item_at text r) (names_from [] a.progress.items) ≡ None) (u : utf8 (content_of text r) ≡ true) where
       more : length (noted (item_at text r) a.progress.names) ≡ names.count + 1

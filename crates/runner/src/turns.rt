@@ -57,7 +57,7 @@ fn take<P: Program>(
 }
 
 // One turn, by what is to be done next. The three buffers are no struct: with an invariant over their lengths its fields
-// cannot be lent one beside the other yet, and without one each function would require the lengths (tried).
+// cannot be borrowed one beside the other yet, and without one each function would require the lengths (tried).
 fn turn<P: Program, R: Read>(
     rt: &HostRuntime,
     source: &mut R,

@@ -1,5 +1,5 @@
 -- An envelope taken, and turns taken one after the other: what a program's own functions are proved by. Assumes nothing.
-use Rattle.std.proofs.Common.{◌≡◌, ℕ, suc, ◌+◌, ◌-◌, ◌<◌, ◌≤◌, Bool, false, List, [], ◌++◌, length, take, drop, sym, refl, ap, ◌∙◌, subst, append_assoc, arith, length-append, length-take-le, take_at}
+use Rattle.std.proofs.Common.{◌≡◌, ℕ, suc, ◌+◌, ◌-◌, ◌<◌, ◌≤◌, false, List, [], ◌++◌, length, take, drop, sym, refl, ap, ◌∙◌, subst, append_assoc, arith, length-append, length-take-le, take_at}
 use borrow.Rule.Slice.PartMut.{put_mid}
 use Rattle.format.specs.Answer.{Answer}
 use Rattle.format.specs.Envelope.{max_envelope, opening}
@@ -11,17 +11,13 @@ use Rattle.stream.specs.declared.state.Stream.{Stream}
 use Rattle.stream.specs.declared.state.Step.{Step}
 use Rattle.stream.specs.declared.state.Action.TheVariants.{Read, Take, End}
 use Rattle.stream.specs.Window.{Within, unread, unused}
-use Rattle.stream.specs.State.{Flushes, Ready, action_of, advanced, begun, emptied, moved_on, next_of, numbered}
+use Rattle.stream.specs.State.{Flushes, Ready, action_of, advanced, begun, moved_on, next_of, numbered}
 use Rattle.stream.specs.Run.{Buffers, Ends, Filter, Makes, Runs, Snapshot, Takes, Turned, Turns, came_in, no_turn, one_more, sent_in, waiting}
 use Rattle.stream.specs.Laws as laws
 use Rattle.stream.proofs.WindowLaws.{ends, part_length, takes, takes_last}
 use Rattle.stream.proofs.StateLaws.{goes_on, stops}
 
 -- ---- what is ready stays so
-
-pub emptied_ready : (s r : Stream) {input output : ℕ} (output' : ℕ) (f d : Bool) → Ready s input output
-    → r ≡ emptied s s.window f d → Ready r input output'
-emptied_ready s r {input} output' f d h e = subst (λ (x : Stream). Ready x input output') (sym e) (h.0, omega arith)
 
 moved-within : (w : Window) (used n : ℕ) → w.start + used ≤ w.end → w.end ≤ n → Within (moved_on w used) n
 moved-within w used n u l =

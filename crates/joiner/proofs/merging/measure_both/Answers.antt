@@ -16,8 +16,13 @@ returns-in_err-t c =
 
 pub measure-requires-2 : goal.measure-requires-2
 measure-requires-2 c =
-    record { zs = _; u = _; begun = begun-second c.requires.0.both c.requires.0.few c.begin.ensures c.new-names.ensures c.requires.1 (rw c.in_ok-t.was at c.measure.ensures) }
+    let (f, fits) = c.requires in
+    let one = rw c.in_ok-t.was at c.measure.ensures in
+    record { zs = _; u = _; begun = begun-second f.both f.few c.begin.ensures c.new-names.ensures fits one }
 
 pub returns : goal.returns
 returns c =
-    λ rows p l. both-measured p l _ _ _ _ (c.measure-2.ensures _ _ (begun-second p l c.begin.ensures c.new-names.ensures c.requires.1 (rw c.in_ok-t.was at c.measure.ensures)))
+    λ rows p l.
+    let m = rw c.in_ok-t.was at c.measure.ensures in
+    let g = begun-second p l c.begin.ensures c.new-names.ensures c.requires.1 m in
+    both-measured p l _ _ _ _ (c.measure-2.ensures _ _ g)

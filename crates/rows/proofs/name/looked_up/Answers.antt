@@ -38,7 +38,11 @@ key_of-key-requires c = let w = name-stands c.args.names.now.first.now
 
 pub note-requires : goal.note-requires
 note-requires c =
-    (name-stands c.args.names.now.first.now c.args.row c.requires.1.name c.requires.1.fine c.args.names.now refl c.requires.0.short c.content-part.ensures, c.key_of-key.ensures.0)
+    let w = c.requires.1 in (
+      name-stands c.args.names.now.first.now c.args.row w.name w.fine c.args.names.now refl c.requires.0.short
+          c.content-part.ensures,
+      c.key_of-key.ensures.0,
+    )
 
 pub overflow_cast-i : goal.overflow_cast-i
 overflow_cast-i c = let n = rw c.in-Known.is at c.note.ensures in omega (arith, n.1)
@@ -47,8 +51,14 @@ pub fresh-requires : goal.fresh-requires
 fresh-requires c = let r = c.args.row in
     let text = c.args.names.now.first.now in
     let n = rw c.in-Entered.is at c.note.ensures in
-    let i = inside text r c.requires.1.fine (has_content_lem text r c.requires.1.name c.requires.1.fine) in
-    ((text, c.requires.0), c.requires.2, omega (arith, n.grown.room), c.requires.1.name, kind-most text r c.requires.1.fine, omega (arith, i, c.requires.0.short))
+    let i = inside text r c.requires.1.fine (has_content_lem text r c.requires.1.name c.requires.1.fine) in (
+      (text, c.requires.0),
+      c.requires.2,
+      omega (arith, n.grown.room),
+      c.requires.1.name,
+      kind-most text r c.requires.1.fine,
+      omega (arith, i, c.requires.0.short),
+    )
 
 pub returns-in-Known : goal.returns-in-Known
 returns-in-Known c =
