@@ -2,4 +2,5 @@
 pub mod Arguments
 pub mod Exit
 pub mod Lines
+pub mod Said
 pub mod Laws

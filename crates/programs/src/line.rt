@@ -15,6 +15,11 @@ pub struct Line {
 }
 
 impl Line {
+    ghost use Rattle.std.specs.Prelude.{◌≡◌, ◌++◌};
+    ghost use Rattle.format.specs.Error.{code_of};
+    ghost use Rattle.messages.specs.Text.{label, refusal, unknown_option};
+    ghost use Rattle.programs.specs.Said.{said};
+
     // The longest name of a program.
     pub const MAX_NAME: usize = 16;
 
@@ -22,10 +27,11 @@ impl Line {
     pub const CAPACITY: usize = Line::MAX_NAME + Label::BETWEEN + Path::MAX_LEN + Refusal::MAX_LEN;
 
     // The program's name, and what it speaks of.
-    #[tactic(auto, using(crate::proofs::Lines::label_fits, crate::proofs::Lines::label_short))]
+    #[tactic(auto, using(crate::proofs::Lines::label_fits, crate::proofs::Lines::label_short, crate::proofs::Lines::put_whole))]
     pub fn label(name: &[u8], subject: &[u8]) -> Line
         requires { (length name.now ≤ max_name) × (length subject.now ≤ max_path) }
-        ensures { result.len ≤ max_label }
+        ensures short { result.len ≤ max_label }
+        ensures says { said result ≡ label name.now subject.now }
     {
         let mut bytes = [0u8; Line::CAPACITY];
         let len = put_label(name, subject, &mut bytes);
@@ -33,9 +39,10 @@ impl Line {
     }
 
     // An option that there is not.
-    #[tactic(auto, using(crate::proofs::Lines::unknown_fits))]
+    #[tactic(auto, using(crate::proofs::Lines::unknown_fits, crate::proofs::Lines::put_whole))]
     pub fn unknown_option(name: &[u8], option: &[u8]) -> Line
         requires { (length name.now ≤ max_name) × (length option.now ≤ max_path) }
+        ensures { said result ≡ unknown_option name.now option.now }
     {
         let mut bytes = [0u8; Line::CAPACITY];
         let len = put_unknown_option(name, option, &mut bytes);
@@ -45,6 +52,7 @@ impl Line {
     // Puts why an envelope was refused behind a label.
     pub fn refuse(&mut self, refused: Refused)
         requires { self.old.len ≤ max_label }
+        ensures { said self.new ≡ said self.old ++ refusal refused.envelope (code_of refused.failure.error) refused.failure.place }
     {
         let failure = refused.failure;
         let at = self.len;
@@ -57,7 +65,9 @@ impl Line {
         self.len = at + more;
     }
 
-    pub fn text(&self) -> &[u8] {
+    pub fn text(&self) -> &[u8]
+        ensures { result.now ≡ said self.now }
+    {
         &self.bytes[..self.len]
     }
 }
