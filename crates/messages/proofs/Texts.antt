@@ -1,5 +1,6 @@
 -- Labels and refusals: how long they are, and with their first part written and the others to come. Assumes nothing.
 use mathlib.Core.Path.{◌≡◌}
+use mathlib.Core.Logic.{◌≢◌}
 use mathlib.Core.Bool.{Bool, true, false}
 use mathlib.Core.List.{List, [], ◌∷◌}
 use Prim.Native.Nat.{ℕ, ◌+◌, ◌≤◌}
@@ -7,6 +8,7 @@ use native.Mathlib.Omega.{arith}
 use lib.Dec.{eqb}
 use lib.ListN.{length}
 use Rattle.format.specs.Choice.{pick}
+use Rattle.format.proofs.Tests.{eqb_no}
 use Rattle.wire.specs.Output.{Puts}
 use Rattle.ascii.specs.Text.{ascii, labelled, newline}
 use Rattle.ascii.proofs.Lengths.{length_flatten, length-labelled, length_one}
@@ -65,6 +67,18 @@ words-short n =
     (either (eqb n 5) _ _ (omega arith)
     (either (eqb n 6) _ _ (omega arith) (either (eqb n 7) _ _ (omega arith) (either (eqb n 8) _ _ (omega arith)
     (either (eqb n 10) _ _ (omega arith) (either (eqb n 12) _ _ (omega arith) (either (eqb n 13) _ _ (omega arith) (omega arith)))))))))))
+
+-- none of the numbers that have a meaning
+abbrev pub Other : ℕ → Type 0
+Other n =
+    (((((((((((Unit {0} × (n ≢ 1)) × (n ≢ 2)) × (n ≢ 3)) × (n ≢ 4)) × (n ≢ 5)) × (n ≢ 6)) × (n ≢ 7)) × (n ≢ 8))
+    × (n ≢ 10)) × (n ≢ 12)) × (n ≢ 13))
+
+-- Each of the others has the words of 0.
+pub words-other : (n : ℕ) → Other n → words n ≡ words 0
+unfolding pick beside words
+words-other n (((((((((((_, a), b), c), d), e), f), g), h), i), j), k) =
+    rw (eqb_no a, eqb_no b, eqb_no c, eqb_no d, eqb_no e, eqb_no f, eqb_no g, eqb_no h, eqb_no i, eqb_no j, eqb_no k)
 
 -- ---- refusals
 

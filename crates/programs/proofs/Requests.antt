@@ -1,5 +1,5 @@
 -- What one argument asks for, case by case, and inputs one after the other. Assumes nothing.
-use Rattle.std.specs.Prelude.{Some}
+use Rattle.std.specs.Prelude.{None, Some}
 use mathlib.Core.Path.{◌≡◌, refl, sym, ap, subst, ◌∙◌}
 use mathlib.Core.Logic.{◌≢◌}
 use mathlib.Core.Bool.{true, false}
@@ -93,3 +93,7 @@ module _ (s : Stream) where
       pub status_refused : {r : Refused} → s.refusal ≡ Some r → status_of s ≡ 1
       unfolding status_of
       status_refused e = pick_no _ _ fine ∙ pick_yes _ _ (rw (going, e))
+
+      pub status_good : s.refusal ≡ None → status_of s ≡ 0
+      unfolding status_of
+      status_good e = pick_no _ _ fine ∙ pick_no _ _ (rw (going, e))

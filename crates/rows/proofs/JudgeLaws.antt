@@ -34,7 +34,7 @@ use Rattle.rows.specs.declared.state.State.{State}
 use Rattle.rows.specs.Stack.{bottom, Stands}
 use Rattle.rows.specs.Steps.{valued, keyed_by, named_by, opened_by}
 use Rattle.encoder.specs.Plan.{Measured}
-use Rattle.rows.specs.Judging.{After, Next, Ready, refused, taken}
+use Rattle.rows.specs.Judging.{After, Kept, Next, Ready, refused, taken}
 use Rattle.rows.proofs.StackLaws.{opened-length, stands-value, stands-key, stands_open}
 use Rattle.encoder.proofs.MeasureLaws.{names_more, measure_plain}
 
@@ -137,6 +137,11 @@ module _ {text : List ℕ} {names : Names} {st plan : List ℕ} {xs : List Row} 
     where
       x : Item
       x = item_at text r
+
+-- What is as it was is kept, whatever is answered.
+pub kept_by : {A : Type 0} {x y : A} → y ≡ x → (q : Answer Unit) → Kept x y q
+kept_by e (Ok _) = tt
+kept_by e (Err _) = e
 
 -- The same for an equal row.
 pub next_row : {text : List ℕ} {names : Names} {st plan : List ℕ} {xs : List Row} {q r : Row} {s t : State} {a : Answer Unit} → q ≡ r

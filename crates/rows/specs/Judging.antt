@@ -42,3 +42,8 @@ pub data Next (text : List ℕ) (names : Names) (st plan : List ℕ) (xs : List 
   taken : After text names st plan (xs ++ (r ∷ [])) t → t.row ≡ s.row + 1 → Next text names st plan xs r s t (Ok tt)
   refused : {f : Failure} → ((rest : List Row) → judge text begin (xs ++ (r ∷ rest)) ≡ Err f)
       → Next text names st plan xs r s t (Err f)
+
+-- A row that is refused leaves what it was lent as it was: x before it, y after.
+abbrev pub Kept : {A : Type 0} → A → A → Answer Unit → Type 0
+Kept x y (Ok _) = Unit
+Kept x y (Err _) = y ≡ x

@@ -7,7 +7,7 @@ ghost use Rattle.format.specs.Limits.{max_bytes, max_entries, max_kind};
 ghost use Rattle.format.specs.Header.{header};
 ghost use Rattle.encoder.specs.Plan.{no_index};
 ghost use Rattle.rows.specs.Plan.{plan_size, guess_at};
-ghost use Rattle.rows.specs.Judging.{After, Next, Ready};
+ghost use Rattle.rows.specs.Judging.{After, Kept, Next, Ready};
 ghost use Rattle.rows.specs.Names.{Naming};
 ghost use Rattle.rows.specs.Steps.{named_by};
 
@@ -99,6 +99,7 @@ fn looked_up(
     ensures next { (xs : List Row) → After names.old.first.now names.old stack.now plan.old xs s.old
         → Next names.old.first.now names.new stack.now plan.new xs row s.old s.new result }
     ensures texts { (names.new.first.now ≡ names.old.first.now) × (names.new.second.now ≡ names.old.second.now) }
+    ensures kept { Kept names.old names.new result × Kept s.old s.new result }
 {
     let part = content(names.first, row);
     if !is_utf8(part) {
@@ -127,6 +128,7 @@ pub fn name_row(
     ensures next { (xs : List Row) → After names.old.first.now names.old stack.now plan.old xs s.old
         → Next names.old.first.now names.new stack.now plan.new xs row s.old s.new result }
     ensures texts { (names.new.first.now ≡ names.old.first.now) × (names.new.second.now ≡ names.old.second.now) }
+    ensures kept { Kept names.old names.new result × Kept s.old s.new result }
 {
     if is_bad(names.first.len(), row) {
         return fail(Error::InvalidRow, s.row);

@@ -5,7 +5,7 @@ ghost use Rattle.format.specs.Kind as Kind;
 ghost use Rattle.format.specs.Item.{has_content};
 ghost use Rattle.symbols.specs.declared.names.Names.{Names};
 ghost use Rattle.rows.specs.Plan.{plan_size};
-ghost use Rattle.rows.specs.Judging.{After, Next, Ready};
+ghost use Rattle.rows.specs.Judging.{After, Kept, Next, Ready};
 
 use crate::item::{bad_number, content, has_content, outside, plain_len};
 use crate::name::{Plan, name_row};
@@ -24,9 +24,10 @@ fn content_row(
     row: Row,
 ) -> Result<(), Failure>
     requires { Ready text.now stack.now s.old × (row.kind < Kind.symbol) × (has_content row.kind ≡ true) }
-    ensures { (names : Names) (plan : List ℕ) (xs : List Row)
+    ensures next { (names : Names) (plan : List ℕ) (xs : List Row)
         → After text.now names stack.now plan xs s.old
         → Next text.now names stack.now plan xs row s.old s.new result }
+    ensures kept { Kept s.old s.new result }
 {
     let number = row.number;
     if outside(text.len(), row.start, number) {
@@ -49,8 +50,9 @@ fn container_row(
     number: u64,
 ) -> Result<(), Failure>
     requires { (text : List ℕ) × Ready text stack.old s.old }
-    ensures { (text : List ℕ) (names : Names) (plan : List ℕ) (xs : List Row) → After text names stack.old plan xs s.old
+    ensures next { (text : List ℕ) (names : Names) (plan : List ℕ) (xs : List Row) → After text names stack.old plan xs s.old
         → Next text names stack.new plan xs (record { kind = Kind.container; number = number; start = 0 }) s.old s.new result }
+    ensures kept { Kept s.old s.new result }
 {
     if Bundle::MAX_DEPTH <= s.depth {
         return fail(Error::TooDeep, s.row);
@@ -72,8 +74,9 @@ fn plain_row(
     number: u64,
 ) -> Result<(), Failure>
     requires { ((text : List ℕ) × Ready text stack.now s.old) × (kind < Kind.container) × (has_content kind ≡ false) }
-    ensures { (text : List ℕ) (names : Names) (plan : List ℕ) (xs : List Row) → After text names stack.now plan xs s.old
+    ensures next { (text : List ℕ) (names : Names) (plan : List ℕ) (xs : List Row) → After text names stack.now plan xs s.old
         → Next text names stack.now plan xs (record { kind = kind; number = number; start = 0 }) s.old s.new result }
+    ensures kept { Kept s.old s.new result }
 {
     if bad_number(kind, number) {
         return fail(Error::InvalidRow, s.row);
@@ -82,7 +85,7 @@ fn plain_row(
     Ok(())
 }
 
-// One row more.
+// One row more. Where it is refused, the state and the names are as they were.
 pub fn step(
     names: &mut Names<'_>,
     stack: &mut [u64; Bundle::MAX_DEPTH],
@@ -94,6 +97,7 @@ pub fn step(
     ensures next { (xs : List Row) → After names.old.first.now names.old stack.old plan.old xs s.old
         → Next names.old.first.now names.new stack.new plan.new xs row s.old s.new result }
     ensures texts { (names.new.first.now ≡ names.old.first.now) × (names.new.second.now ≡ names.old.second.now) }
+    ensures kept { Kept names.old names.new result × Kept s.old s.new result }
 {
     let kind = row.kind;
     if Row::SYMBOL <= kind {

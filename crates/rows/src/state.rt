@@ -1,4 +1,4 @@
-// How far judging has come: small numbers that go by value.
+// How far judging has come: small numbers, changed in place.
 ghost use Rattle.std.specs.Prelude.{◌≡◌, ◌+◌, ◌≤◌, length};
 ghost use Rattle.format.specs.declared.error.Error.TheVariants.{InvalidUtf8};
 ghost use Rattle.format.specs.Answer.{failure_beside};

@@ -1,4 +1,5 @@
-// The symbol table in memory: packed entries, and a lookup of names by chains that strict reading, writing and joining share.
+// The symbol table in memory: packed entries, and names looked up by chains: in `lookup` for strict reading, in `Names` for
+// writing and joining.
 #![tactic(auto)]
 
 pub mod entry;

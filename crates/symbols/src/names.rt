@@ -91,7 +91,7 @@ impl<'a> Names<'a> {
     }
 
     // Looks up a name that stands in one of the texts, and puts it in where it is new. The key is the caller's to make:
-    // without the marking of bytes this is short enough to be compiled into each caller, and strict reading is faster for it.
+    // without the marking of bytes this is short. It is compiled into each caller, and canonicalizing names is faster for it.
     #[inline(always)]
     pub fn note(&mut self, kind: u8, key: u64, side: u64, start: usize, content: &[u8]) -> Noted
         requires { Part self.old.first.now self.old.second.now kind side start content.now × (key ≡ key_of kind content.now) }

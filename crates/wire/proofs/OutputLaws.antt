@@ -1,40 +1,30 @@
 -- Numbers, headers and bytes, as they are written. Assumes nothing.
 use mathlib.Core.Path.{◌≡◌, refl, ap, sym, ◌∙◌}
 use mathlib.Core.List.{List, [], ◌∷◌, ◌++◌}
-use Prim.Native.Nat.{ℕ, zero, suc, ◌+◌, ◌-◌, ◌*◌, ◌/◌, ◌%◌, ◌^◌, ◌≤◌, ◌<◌}
-use native.Mathlib.Nat.{zero-add}
+use Prim.Native.Nat.{ℕ, suc, ◌+◌, ◌-◌, ◌*◌, ◌/◌, ◌%◌, ◌^◌, ◌≤◌, ◌<◌}
 use native.Mathlib.Omega.{arith}
 use lib.ListN.{length, take, drop, set, length-set}
-use lib.Seq.{take_all}
 use borrow.Rule.Slice.PartMut.{put_mid}
-use Rattle.std.specs.Int.{bytes_high_first}
 use Rattle.format.specs.Header.{digits, shift, width, header}
 use Rattle.format.proofs.Tests.{ltb_yes, ltb_no, pick_yes, pick_no}
 use Rattle.format.proofs.Numbers.{length_digits, digits-first}
 use Rattle.format.proofs.Headers.{length-short}
+use Rattle.wire.proofs.Powers.{pow_256}
 use Rattle.wire.proofs.WidthLaws.{width_one}
 use Rattle.wire.proofs.Wrote.{Wrote, start, byte_as, finish, byte_fits, byte_then}
 
 -- ---- numbers
 
--- the library's bytes of a number are its digits
-digits-high : (k n : ℕ) → bytes_high_first k n ≡ digits k n
+-- one digit, and those after it; e is how far the number is shifted
+pub digits_step : (k i n e : ℕ) → i < k → e ≡ 8 * (k - 1 - i) → digits (k - i) n ≡ n / 2 ^ e % 256 ∷ digits (k - (i + 1)) n
+digits_step k i n e h q =
+    let f : k - i ≡ suc (k - 1 - i) = omega arith in
+    let g : k - (i + 1) ≡ k - 1 - i = omega arith in
+    rw (q, f, g, digits-first (k - 1 - i) n, pow_256 (k - 1 - i))
+
+pub digits-none : (k n : ℕ) → k ≡ 0 → digits k n ≡ []
 unfolding digits
-digits-high zero n = refl
-digits-high (suc zero) n = refl
-digits-high (suc (suc k)) n = ap (λ ds. n / 256 ^ suc k % 256 ∷ ds) (digits-high (suc k) n) ∙ sym (digits-first (suc k) n)
-
-drop_high : (j k n : ℕ) → drop j (bytes_high_first (j + k) n) ≡ bytes_high_first k n
-drop_high zero k n = rw zero-add
-drop_high (suc j) k n = let e : suc j + k ≡ suc (j + k) = omega arith in rw e (drop_high j k n)
-
--- and the last k of them are its last k digits
-pub last_digits : (k n : ℕ) → k ≤ 8 → take (8 - (8 - k)) (drop (8 - k) (bytes_high_first 8 n)) ≡ digits k n
-last_digits k n h =
-    let e : 8 ≡ 8 - k + k = omega arith in
-    let f : drop (8 - k) (bytes_high_first 8 n) ≡ digits k n =
-    ap (λ m. drop (8 - k) (bytes_high_first m n)) e ∙ drop_high (8 - k) k n ∙ digits-high k n in
-    rw f (take_all (8 - (8 - k)) (digits k n) (omega (arith, length_digits k n)))
+digits-none k n h = rw h
 
 -- ---- the bytes of the shortest header
 

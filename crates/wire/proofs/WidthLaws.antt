@@ -1,5 +1,5 @@
 -- The width of a payload by its leading zeros, and the length of a header by the width. Assumes nothing.
-use mathlib.Core.Path.{◌≡◌}
+use mathlib.Core.Path.{◌≡◌, sym}
 use mathlib.Core.Bool.{Bool, not}
 use Prim.Native.Nat.{ℕ, ◌+◌, ◌-◌, ◌*◌, ◌/◌, ◌^◌, ◌≤◌, ◌<◌}
 use native.Mathlib.Nat.{lt_of_le_of_lt, lt_of_lt_of_le, not-le_of_lt}
@@ -64,3 +64,10 @@ length_sum code p inline e =
     order (max_inline + 1) (p + shift code)
     (λ l. rw (e, ltb_no l) (omega (arith, length-long code p l)))
     (λ l. rw (e, ltb_yes l) (omega (arith, length-short code p l, width_one p (omega arith))))
+
+-- A header of two bytes is longer than it has to be where its payload stands in the lead byte.
+pub two_is_long : (code p : ℕ) → p < 2 ^ 64 → ltb (p + shift code) (max_inline + 1) ≡ ltb (length (header code p)) 2
+two_is_long code p fits =
+    order (max_inline + 1) (p + shift code)
+    (λ l. rw (ltb_no l, length-long code p l) (sym (ltb_no (omega (arith, (width_holds p fits).least)))))
+    (λ l. rw (ltb_yes l, length-short code p l))

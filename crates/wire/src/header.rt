@@ -154,9 +154,16 @@ pub fn header_len(code: u8, p: u64) -> usize
 }
 
 // Is the header longer than it has to be?
-#[tactic(auto, unfolding(format::specs::Header::is_long))]
+#[tactic(auto, using(crate::proofs::WidthLaws::two_is_long), unfolding(format::specs::Header::is_long))]
 pub fn is_long(h: Header) -> bool
     ensures { result ≡ is_long h }
 {
-    u64::from(h.sz) > Header::MAX_INLINE && header_len(h.code, h.payload) < h.size
+    if u64::from(h.sz) <= Header::MAX_INLINE {
+        return false;
+    }
+    // most; without this, checking integers of two bytes strictly took 1.1 to 1.2 times as long (four places of the code)
+    if h.size == 2 {
+        return is_inline(h.code, h.payload);
+    }
+    header_len(h.code, h.payload) < h.size
 }

@@ -6,7 +6,7 @@ use mathlib.Core.Bool.{not}
 use Rattle.format.specs.Utf8.{utf8}
 use Rattle.symbols.specs.declared.names.Names.{Names}
 use Rattle.rows.proofs.RowLaws.{content-end, inside, kind-most}
-use Rattle.rows.proofs.JudgeLaws.{refuse_next, refuse_text_next}
+use Rattle.rows.proofs.JudgeLaws.{refuse_next, refuse_text_next, kept_by}
 use Rattle.rows.proofs.KindLaws.{name_invalid, fresh-full}
 use Rattle.rows.proofs.NameLaws.{has_content_lem, name-stands, looked_up, among, known_next, fresh-next}
 use Rattle.rows.proofs.name.looked_up.Goals as goal
@@ -28,6 +28,7 @@ returns-then-not-is_utf8 c = record {
       (ap not (ap utf8 (sym c.content-part.ensures)
       ∙ sym c.is_utf8.ensures) ∙ ap not c.if-not-is_utf8.true));
   texts = (refl, refl);
+  kept = (refl, refl);
 }
 
 pub key_of-key-requires : goal.key_of-key-requires
@@ -69,6 +70,7 @@ returns-in-Known c =
           (looked_up a r c.requires.1 c.requires.0 c.content-part.ensures n.0)
           c.known.ensures.state c.known.ensures.planned;
       texts = (refl, refl);
+      kept = (tt, tt);
     })
 
 pub returns-in-Entered : goal.returns-in-Entered
@@ -79,6 +81,7 @@ returns-in-Entered c =
       next = λ xs a. fresh-next a c.args.row c.requires.1 c.requires.0 _ _ c.content-part.ensures u n
           c.fresh.ensures.state c.fresh.ensures.planned;
       texts = (n.grown.first, n.grown.second);
+      kept = (tt, tt);
     }
 
 pub returns-in-Full : goal.returns-in-Full
@@ -94,4 +97,5 @@ returns-in-Full c =
           let e = looked_up a r w c.requires.0 c.content-part.ensures n.0 in
           refuse_next a r TooManyEntries c.fail.ensures (fresh-full a r w.name w.fine w.alone (among a r w c.requires.0 e) u n.1);
       texts = (ap (λ (u : Names). u.first.now) n.2, ap (λ (u : Names). u.second.now) n.2);
+      kept = (kept_by n.2 _, kept_by refl _);
     }

@@ -3,7 +3,7 @@ use Rattle.format.specs.declared.error.Error.TheVariants.{InvalidRow, Unexpected
 use native.Mathlib.Omega.{arith}
 use mathlib.Core.Path.{refl, sym, ◌∙◌}
 use Rattle.rows.proofs.RowLaws.{content-text, bad-content, inside, kind-most}
-use Rattle.rows.proofs.JudgeLaws.{rule_9, refuse_next}
+use Rattle.rows.proofs.JudgeLaws.{rule_9, refuse_next, kept_by}
 use Rattle.rows.proofs.KindLaws.{name-again}
 use Rattle.rows.proofs.NameLaws.{part_item, known_next}
 use Rattle.rows.proofs.name.name_row.Goals as goal
@@ -18,6 +18,7 @@ returns-then-is_bad c = record {
       (rule_9 text a.progress r (bad-content text r (content-text r.kind (omega arith))
       ∙ sym c.is_bad.ensures ∙ c.if-is_bad.true));
   texts = (refl, refl);
+  kept = (kept_by refl _, kept_by refl _);
 }
 
 pub returns-then-key_after_key : goal.returns-then-key_after_key
@@ -31,6 +32,7 @@ returns-then-key_after_key c = record {
       refuse_next a r UnexpectedKey c.fail-then-key_after_key.ensures
       (name-again a r name fine (sym c.key_after_key.ensures ∙ c.if-key_after_key.true));
   texts = (refl, refl);
+  kept = (kept_by refl _, kept_by refl _);
 }
 
 pub is_part-requires : goal.is_part-requires
@@ -59,6 +61,7 @@ returns-then-is_part c = record {
       }) c.requires.0 _ (omega arith)
       (rw (part_item text r c.requires.1 fine) (c.is_part.ensures c.if-is_part.true)) c.known.ensures.state c.known.ensures.planned;
   texts = (refl, refl);
+  kept = (tt, tt);
 }
 
 pub looked_up-requires : goal.looked_up-requires

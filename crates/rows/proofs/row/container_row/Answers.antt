@@ -9,8 +9,8 @@ use Rattle.rows.proofs.JudgeLaws.{ready_more, refuse_next, value-next, open_next
 use Rattle.rows.proofs.KindLaws.{plain-deep, container-none, container-fine, container-full}
 use Rattle.rows.proofs.row.container_row.Goals as goal
 
-pub returns-then-s-ge-MAX_DEPTH : goal.returns-then-s-ge-MAX_DEPTH
-returns-then-s-ge-MAX_DEPTH c = λ text names plan xs a.
+pub returns-then-s-ge-MAX_DEPTH-clause-next : goal.returns-then-s-ge-MAX_DEPTH-clause-next
+returns-then-s-ge-MAX_DEPTH-clause-next c = λ text names plan xs a.
     let r : Row = record { kind = 8; number = c.args.number; start = 0 } in
     refuse_next a r TooDeep c.fail.ensures
     (plain-deep a r (omega arith) (container-fine text r.number) refl c.if-s-ge-MAX_DEPTH.true)
@@ -19,8 +19,8 @@ pub value-requires : goal.value-requires
 value-requires c = ready_more c.requires.1 _ (omega
     (arith, c.header_len-n.ensures, header-most 3 c.args.number (omega arith)))
 
-pub returns-then-number-eq0 : goal.returns-then-number-eq0
-returns-then-number-eq0 c = λ text names plan xs a.
+pub returns-then-number-eq0-clause-next : goal.returns-then-number-eq0-clause-next
+returns-then-number-eq0-clause-next c = λ text names plan xs a.
     let w = c.requires.1 in
     let n = c.args.number in
     let r : Row = record { kind = 8; number = n; start = 0 } in
@@ -37,8 +37,8 @@ descend-requires c =
     let h = header-most 3 c.args.number (omega arith) in
     (w.stack, c.if-s-ge-MAX_DEPTH.false, omega (arith, w.row), omega (arith, w.small, w.row, c.header_len-n.ensures))
 
-pub returns : goal.returns
-returns c = λ text names plan xs a.
+pub returns-clause-next : goal.returns-clause-next
+returns-clause-next c = λ text names plan xs a.
     let w = c.requires.1 in
     let n = c.args.number in
     let r : Row = record { kind = 8; number = n; start = 0 } in

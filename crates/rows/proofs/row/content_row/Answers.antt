@@ -10,8 +10,8 @@ use Rattle.rows.proofs.JudgeLaws.{rule_9, ready_more, refuse_next, refuse_text_n
 use Rattle.rows.proofs.KindLaws.{content-bad, content-full, content-small, plain-text, value_none}
 use Rattle.rows.proofs.row.content_row.Goals as goal
 
-pub returns-then-outside : goal.returns-then-outside
-returns-then-outside c = λ names plan xs a.
+pub returns-then-outside-clause-next : goal.returns-then-outside-clause-next
+returns-then-outside-clause-next c = λ names plan xs a.
     let r = c.args.row in
     let text = c.args.text.now in
     refuse_next a r InvalidRow c.fail.ensures
@@ -27,8 +27,8 @@ invalid_text-requires c =
     ∙ sym c.outside.ensures ∙ c.if-outside.false in
     content-end _ c.args.row fine c.requires.2 c.content-part.ensures c.requires.0.short
 
-pub returns-then-bad_text : goal.returns-then-bad_text
-returns-then-bad_text c = λ names plan xs a.
+pub returns-then-bad_text-clause-next : goal.returns-then-bad_text-clause-next
+returns-then-bad_text-clause-next c = λ names plan xs a.
     let r = c.args.row in
     let text = c.args.text.now in
     let fine = content-bad text r c.requires.2 (omega (arith, c.requires.1))
@@ -61,8 +61,8 @@ value-requires c =
     let h = rw c.code_of.ensures at c.header_len.ensures in
     ready_more c.requires.0 _ (content-small text r c.requires.2 fine c.requires.0.short _ h)
 
-pub returns : goal.returns
-returns c = λ names plan xs a.
+pub returns-clause-next : goal.returns-clause-next
+returns-clause-next c = λ names plan xs a.
     let r = c.args.row in
     let text = c.args.text.now in
     let fine = content-bad text r c.requires.2 (omega (arith, c.requires.1))

@@ -11,14 +11,14 @@ use Rattle.rows.proofs.JudgeLaws.{rule_9, refuse_next, value-next, no_container,
 use Rattle.rows.proofs.KindLaws.{value_none, bare}
 use Rattle.rows.proofs.row.plain_row.Goals as goal
 
-pub returns-then-bad_number : goal.returns-then-bad_number
-returns-then-bad_number c = λ text names plan xs a.
+pub returns-then-bad_number-clause-next : goal.returns-then-bad_number-clause-next
+returns-then-bad_number-clause-next c = λ text names plan xs a.
     let r : Row = record { kind = c.args.kind; number = c.args.number; start = 0 } in
     let bad = bad-plain text r (omega arith) c.requires.2 refl ∙ sym c.bad_number.ensures ∙ c.if-bad_number.true in
     refuse_next a r InvalidRow c.fail.ensures (rule_9 text a.progress r bad)
 
-pub returns : goal.returns
-returns c = λ text names plan xs a.
+pub returns-clause-next : goal.returns-clause-next
+returns-clause-next c = λ text names plan xs a.
     let r : Row = record {
       kind = c.args.kind;
       number = c.args.number;

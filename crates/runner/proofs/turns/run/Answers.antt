@@ -10,8 +10,9 @@ loop-init g c =
 
 pub returns-then-s : goal.returns-then-s
 returns-then-s g c =
-    let sized = long_enough g.P.Program.filter g.met.P.Program.fits _ _ c.buffer-input.ensures.1 c.buffer-output.ensures.0 in
-    ran c.loop.invariant.going c.args.before _ c.begin.ensures sized (inl (c.if-s.true, refl))
+    ran c.loop.invariant.going c.args.before _ c.begin.ensures
+    (long_enough _ _ _ c.buffer-input.ensures.1 (omega (arith, g.met.P.Program.fits, c.buffer-output.ensures.0)))
+    (inl (c.if-s.true, refl))
 
 pub loop-preserved : goal.loop-preserved
 loop-preserved g c =
@@ -23,5 +24,6 @@ loop-preserved g c =
 
 pub returns : goal.returns
 returns g c =
-    let sized = long_enough g.P.Program.filter g.met.P.Program.fits _ _ c.buffer-input.ensures.1 c.buffer-output.ensures.0 in
-    ran c.loop.invariant.going c.args.before _ c.begin.ensures sized (inr (omega (arith, c.loop-test.false, c.loop.auto.counter-end), c.fail.ensures))
+    ran c.loop.invariant.going c.args.before _ c.begin.ensures
+    (long_enough _ _ _ c.buffer-input.ensures.1 (omega (arith, g.met.P.Program.fits, c.buffer-output.ensures.0)))
+    (inr (omega (arith, c.loop-test.false, c.loop.auto.counter-end), c.fail.ensures))
