@@ -8,9 +8,7 @@ ghost use Rattle.wire.specs.Output.{Puts};
 use crate::header::{Lead, is_inline, width};
 use format::Header;
 
-// n in k bytes, most significant first. Not compiled into its callers, nor is `copy`: with both, writing integers took 1.3
-// times as long, and names 1.1 times.
-#[inline(never)]
+// n in k bytes, most significant first.
 pub fn put_number(out: &mut [u8], k: usize, n: u64) -> usize
     requires { (k ≤ max_following) × (k ≤ length out.old) }
     ensures { (result ≡ k) × (out.new ≡ digits k n ++ drop k out.old) }
@@ -19,6 +17,15 @@ pub fn put_number(out: &mut [u8], k: usize, n: u64) -> usize
         out[i] = ((n >> (8 * (k - 1 - i))) % 256) as u8;
     }
     k
+}
+
+// The same for callers that don't know k: not compiled into them, as writing integers took 1.3 times as long.
+#[inline(never)]
+fn put_payload(out: &mut [u8], k: usize, p: u64) -> usize
+    requires { (k ≤ max_following) × (k ≤ length out.old) }
+    ensures { (result ≡ k) × (out.new ≡ digits k p ++ drop k out.old) }
+{
+    put_number(out, k, p)
 }
 
 // The lead byte that has the payload in it.
@@ -49,11 +56,11 @@ pub fn put_header(out: &mut [u8], code: u8, p: u64) -> usize
         out[1] = p as u8;
         return 2;
     }
-    1 + put_number(&mut out[1..], k, p)
+    1 + put_payload(&mut out[1..], k, p)
 }
 
 // The bytes of another buffer. By a loop, as in `put_number`: `copy_from_slice` calls `memmove`, and the library for C
-// needs nothing from outside but `memset`.
+// needs nothing from outside but `memset`. Not compiled into its callers: writing names took 1.1 times as long.
 #[inline(never)]
 pub fn copy(out: &mut [u8], from: &[u8]) -> usize
     requires { length from.now ≤ length out.old }
