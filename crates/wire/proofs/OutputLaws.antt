@@ -1,30 +1,30 @@
 -- Numbers, headers and bytes, as they are written. Assumes nothing.
 use mathlib.Core.Path.{◌≡◌, refl, ap, sym, ◌∙◌}
-use mathlib.Core.List.{List, [], ◌∷◌, ◌++◌}
-use Prim.Native.Nat.{ℕ, suc, ◌+◌, ◌-◌, ◌*◌, ◌/◌, ◌%◌, ◌^◌, ◌≤◌, ◌<◌}
+use mathlib.Core.List.{List, [], ◌∷◌, ◌++◌, append_assoc}
+use Prim.Native.Nat.{ℕ, zero, suc, ◌+◌, ◌-◌, ◌*◌, ◌/◌, ◌%◌, ◌≤◌, ◌<◌}
+use native.Mathlib.Numerals.{add-one}
 use native.Mathlib.Omega.{arith}
+use Rattle.std.proofs.lemmas.List.{drop-set}
 use lib.ListN.{length, take, drop, set, length-set}
 use borrow.Rule.Slice.PartMut.{put_mid}
 use Rattle.format.specs.Header.{digits, shift, width, header}
 use Rattle.format.proofs.Tests.{ltb_yes, ltb_no, pick_yes, pick_no}
-use Rattle.format.proofs.Numbers.{length_digits, digits-first}
+use Rattle.format.proofs.Numbers.{length_digits}
 use Rattle.format.proofs.Headers.{length-short}
-use Rattle.wire.proofs.Powers.{pow_256}
 use Rattle.wire.proofs.WidthLaws.{width_one}
 use Rattle.wire.proofs.Wrote.{Wrote, start, byte_as, finish, byte_fits, byte_then}
 
 -- ---- numbers
 
--- one digit, and those after it; e is how far the number is shifted
-pub digits_step : (k i n e : ℕ) → i < k → e ≡ 8 * (k - 1 - i) → digits (k - i) n ≡ n / 2 ^ e % 256 ∷ digits (k - (i + 1)) n
-digits_step k i n e h q =
-    let f : k - i ≡ suc (k - 1 - i) = omega arith in
-    let g : k - (i + 1) ≡ k - 1 - i = omega arith in
-    rw (q, f, g, digits-first (k - 1 - i) n, pow_256 (k - 1 - i))
-
-pub digits-none : (k n : ℕ) → k ≡ 0 → digits k n ≡ []
+-- The last digit, written at its place before what stands behind.
+pub last_digit : (l : List ℕ) (i n : ℕ) → 0 < i → i ≤ length l
+    → digits (i - 1) (n / 256) ++ drop (i - 1) (set l (i - 1) (n % 256)) ≡ digits i n ++ drop i l
 unfolding digits
-digits-none k n h = rw h
+last_digit l zero n p h = elim p [ ]
+last_digit l (suc j) n p h =
+    let m : suc j - 1 ≡ j = omega arith in
+    let e : drop j (set l j (n % 256)) ≡ n % 256 ∷ drop (suc j) l = rw add-one at (drop-set l j (n % 256) (omega arith)) in
+    rw (m, e, append_assoc)
 
 -- ---- the bytes of the shortest header
 

@@ -40,9 +40,6 @@ module _ {w l₀ l : List ℕ} {n : ℕ} where
       let f : take n l ≡ w = sym (append-nil (take n l)) ∙ h.front in
       (e, sym (take-append-drop n l) ∙ ap (λ (x : List ℕ). x ++ drop n l) f ∙ ap (λ (x : List ℕ). w ++ x) (h.back ∙ ap (λ (x : ℕ). drop x l₀) e))
 
-  pub finish_as : {rest : List ℕ} → Wrote w l₀ l n rest → rest ≡ [] → n ≤ length l → (n ≡ length w) × (l ≡ w ++ drop (length w) l₀)
-  finish_as h e le = finish (subst (λ (x : List ℕ). Wrote w l₀ l n x) e h) le
-
   -- all of it, by the length before
   pub finish_all : Wrote w l₀ l n [] → n ≤ length l₀ → (n ≡ length w) × (l ≡ w ++ drop (length w) l₀)
   finish_all h le = finish h (omega (arith, h.long))

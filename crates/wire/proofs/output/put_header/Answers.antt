@@ -52,16 +52,16 @@ returns-then-k-eq1 c =
     put_two _ _ _ c.requires.1 _ (long c.is_inline.ensures c.if-is_inline.false)
     (one_byte (omega (arith, c.width-k.ensures)) c.ranges.p.fits) (omega arith)
 
-pub slice_bounds-put_payload-count : goal.slice_bounds-put_payload-count
-slice_bounds-put_payload-count c =
+pub slice_bounds-put_number-count : goal.slice_bounds-put_number-count
+slice_bounds-put_number-count c =
     simp length-set (omega (arith, length-long _ _ (long c.is_inline.ensures c.if-is_inline.false)))
 
-pub slice_bounds-put_payload-start : goal.slice_bounds-put_payload-start
-slice_bounds-put_payload-start c =
+pub slice_bounds-put_number-start : goal.slice_bounds-put_number-start
+slice_bounds-put_number-start c =
     simp length-set (omega (arith, length-long _ _ (long c.is_inline.ensures c.if-is_inline.false)))
 
-pub put_payload-requires : goal.put_payload-requires
-put_payload-requires c = (
+pub put_number-requires : goal.put_number-requires
+put_number-requires c = (
   omega (arith, c.width-k.ensures, (width_holds _ c.ranges.p.fits).most),
   long-fits _ _ c.args.out.now c.requires.1 _ (long c.is_inline.ensures c.if-is_inline.false)
       c.width-k.ensures,
@@ -69,11 +69,11 @@ put_payload-requires c = (
 
 pub overflow_add-result : goal.overflow_add-result
 overflow_add-result c =
-    omega (arith, c.put_payload.ensures.0, c.width-k.ensures, (width_holds _ c.ranges.p.fits).most)
+    omega (arith, c.put_number.ensures.0, c.width-k.ensures, (width_holds _ c.ranges.p.fits).most)
 
 pub returns : goal.returns
 returns c =
     let l = long c.is_inline.ensures c.if-is_inline.false in
-    let whole = put-long _ _ c.args.out.now c.requires.1 _ l c.width-k.ensures _ _ c.put_payload.ensures.0
-    c.put_payload.ensures.1 in
-    finish_all whole (omega (arith, c.put_payload.ensures.0, c.width-k.ensures, length-long _ _ l))
+    let whole = put-long _ _ c.args.out.now c.requires.1 _ l c.width-k.ensures _ _ c.put_number.ensures.0
+    c.put_number.ensures.1 in
+    finish_all whole (omega (arith, c.put_number.ensures.0, c.width-k.ensures, length-long _ _ l))
