@@ -9,7 +9,7 @@ use crate::header::{Lead, is_inline, width};
 use format::Header;
 
 // n in k bytes, most significant first. The last is written first: from the first on, by shifts of n, LLVM makes vectors
-// of masks, and writing integers took 1.7 to 2.4 times as long.
+// of masks, and writing integers of three bytes or more took 1.9 to 2.2 times as long.
 #[tactic(auto, using(crate::proofs::OutputLaws::last_digit), unfolding(format::specs::Header::digits))]
 pub fn put_number(out: &mut [u8], k: usize, n: u64) -> usize
     requires { (k ≤ max_following) × (k ≤ length out.old) }
@@ -46,7 +46,7 @@ pub fn put_header(out: &mut [u8], code: u8, p: u64) -> usize
     }
     let k = width(p);
     out[0] = code * Lead::SIZES + Header::MAX_INLINE as u8 + k as u8;
-    // most; without this, writing integers took 1.03 to 1.05 times as long
+    // most; without this, writing the bench's integers took 1.03 times as long, but its names 0.94
     if k == 1 {
         out[1] = p as u8;
         return 2;
